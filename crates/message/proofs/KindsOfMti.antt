@@ -1,0 +1,154 @@
+-- M4: exactly which MTIs are of each kind; every other one is "other", 04C6 and 0546 among them.
+use Prim.Native.Nat.{ℕ}
+use mathlib.Core.Path.{_≡_, refl, sym, ap, ap₂, _∙_}
+use mathlib.Core.Bool.{Bool, true, false, cond, not, Bool·beq, _&&_, _||_, true≢false}
+use mathlib.Core.List.{List, [], _∷_}
+use borrow.Author.Tests.{eqb-true}
+use lib.Dec.{eqb}
+use Rattle.range.specs.Range.{single, blockOf}
+use Rattle.range.proofs.Laws.{both}
+use Rattle.message.specs.declared.Kind.{Kind}
+use Rattle.message.specs.declared.Kind.the-variants.{InitializationComplete, EventReport, IdentifyConsumer, IdentifyProducer, ConsumerIdentified, ProducerIdentified, ConsumerRangeIdentified, ProducerRangeIdentified, IdentifyEvents, LearnEvent, Other}
+use Rattle.message.specs.declared.Meaning.{Meaning}
+use Rattle.message.specs.declared.Field.the-variants.{Present}
+use Rattle.message.specs.declared.Message.{Message}
+use Rattle.message.specs.declared.Announcement.the-variants.{Of, Nothing}
+use Rattle.message.specs.Mti.{Row, table, other, lookup, meaningOf, kindOf}
+use Rattle.message.specs.Announcing.{announced, announcementOf}
+
+-- ---- which MTIs, by kind
+
+pub mtisOf : Kind → List ℕ
+mtisOf InitializationComplete = 0x0100 ∷ 0x0110 ∷ []
+mtisOf EventReport = 0x05B4 ∷ 0x0F14 ∷ []
+mtisOf IdentifyConsumer = 0x08F4 ∷ []
+mtisOf IdentifyProducer = 0x0914 ∷ []
+mtisOf ConsumerIdentified = 0x04C4 ∷ 0x04C5 ∷ 0x04C7 ∷ []
+mtisOf ProducerIdentified = 0x0544 ∷ 0x0545 ∷ 0x0547 ∷ []
+mtisOf ConsumerRangeIdentified = 0x04A4 ∷ []
+mtisOf ProducerRangeIdentified = 0x0524 ∷ []
+mtisOf IdentifyEvents = 0x0970 ∷ 0x0968 ∷ []
+mtisOf LearnEvent = 0x0594 ∷ []
+mtisOf Other = []
+
+abbrev place : Kind → ℕ
+place InitializationComplete = 0
+place EventReport = 1
+place IdentifyConsumer = 2
+place IdentifyProducer = 3
+place ConsumerIdentified = 4
+place ProducerIdentified = 5
+place ConsumerRangeIdentified = 6
+place ProducerRangeIdentified = 7
+place IdentifyEvents = 8
+place LearnEvent = 9
+place Other = 10
+
+-- Whether two kinds are the same.
+abbrev pub sameKind : Kind → Kind → Bool
+sameKind a b = eqb (place a) (place b)
+
+abbrev pub oneOf : List ℕ → ℕ → Bool
+oneOf [] m = false
+oneOf (k ∷ ks) m = eqb m k || oneOf ks m
+
+-- ---- a question of the table and a list of MTIs that answer alike
+
+abbrev pub known : List Row → ℕ → Bool
+known [] m = false
+known (r ∷ rs) m = eqb m (r .mti) || known rs m
+
+abbrev alike : (Meaning → Bool) → (ℕ → Bool) → List Row → Bool
+alike f g [] = true
+alike f g (r ∷ rs) = Bool·beq (f (r .means)) (g (r .mti)) && alike f g rs
+
+beq-same : (a b : Bool) → Bool·beq a b ≡ true → a ≡ b
+beq-same true true e = refl
+beq-same true false e = sym e
+beq-same false true e = e
+beq-same false false e = refl
+
+-- They answer alike on every row, and where there is no row.
+alike-everywhere : (f : Meaning → Bool) (g : ℕ → Bool) (rs : List Row) (m : ℕ) → alike f g rs ≡ true
+    → (known rs m ≡ false → f other ≡ g m) → f (lookup rs m) ≡ g m
+alike-everywhere f g [] m h miss = miss refl
+alike-everywhere f g (r ∷ rs) m h miss =
+    let parts = both (Bool·beq (f (r .means)) (g (r .mti))) (alike f g rs) h in
+    go (eqb m (r .mti)) refl (parts .0) (alike-everywhere f g rs m (parts .1))
+  where
+    go : (t : Bool) → eqb m (r .mti) ≡ t → Bool·beq (f (r .means)) (g (r .mti)) ≡ true
+        → ((known rs m ≡ false → f other ≡ g m) → f (lookup rs m) ≡ g m) → f (cond t (r .means) (lookup rs m)) ≡ g m
+    go true e here later = beq-same (f (r .means)) (g (r .mti)) here ∙ ap g (sym (eqb-true m (r .mti) e))
+    go false e here later = later (λ k. miss (ap (λ (t : Bool). t || known rs m) e ∙ k))
+
+-- MTIs that are all in the table.
+abbrev allKnown : List ℕ → List Row → Bool
+allKnown [] rs = true
+allKnown (k ∷ ks) rs = known rs k && allKnown ks rs
+
+unknown-not-one : (ks : List ℕ) (rs : List Row) (m : ℕ) → allKnown ks rs ≡ true → known rs m ≡ false → oneOf ks m ≡ false
+unknown-not-one [] rs m h u = refl
+unknown-not-one (k ∷ ks) rs m h u =
+    let parts = both (known rs k) (allKnown ks rs) h in
+    go (eqb m k) refl (parts .0) (unknown-not-one ks rs m (parts .1) u)
+  where
+    go : (t : Bool) → eqb m k ≡ t → known rs k ≡ true → oneOf ks m ≡ false → (t || oneOf ks m) ≡ false
+    go true e here rest = absurd (true≢false (sym here ∙ ap (known rs) (sym (eqb-true m k e)) ∙ u))
+    go false e here rest = rest
+
+-- ---- the kinds
+
+exactly : (k : Kind) → sameKind k Other ≡ false → (m : ℕ) → alike (λ (x : Meaning). sameKind k (x .kind)) (oneOf (mtisOf k)) table ≡ true
+    → allKnown (mtisOf k) table ≡ true → sameKind k (kindOf m) ≡ oneOf (mtisOf k) m
+unfolding meaningOf
+exactly k n m a b =
+    alike-everywhere (λ (x : Meaning). sameKind k (x .kind)) (oneOf (mtisOf k)) table m a (λ u. n ∙ sym (unknown-not-one (mtisOf k) table m b u))
+
+-- A kind that is not "other" is that of its MTIs and of no other.
+pub kind-exactly : (k : Kind) → sameKind k Other ≡ false → (m : ℕ) → sameKind k (kindOf m) ≡ oneOf (mtisOf k) m
+unfolding meaningOf mtisOf
+kind-exactly InitializationComplete n m = exactly InitializationComplete n m refl refl
+kind-exactly EventReport n m = exactly EventReport n m refl refl
+kind-exactly IdentifyConsumer n m = exactly IdentifyConsumer n m refl refl
+kind-exactly IdentifyProducer n m = exactly IdentifyProducer n m refl refl
+kind-exactly ConsumerIdentified n m = exactly ConsumerIdentified n m refl refl
+kind-exactly ProducerIdentified n m = exactly ProducerIdentified n m refl refl
+kind-exactly ConsumerRangeIdentified n m = exactly ConsumerRangeIdentified n m refl refl
+kind-exactly ProducerRangeIdentified n m = exactly ProducerRangeIdentified n m refl refl
+kind-exactly IdentifyEvents n m = exactly IdentifyEvents n m refl refl
+kind-exactly LearnEvent n m = exactly LearnEvent n m refl refl
+kind-exactly Other n m = absurd (true≢false n)
+
+-- "Other" is what no row of the table has.
+pub other-exactly : (m : ℕ) → sameKind Other (kindOf m) ≡ not (known table m)
+unfolding meaningOf
+other-exactly m = alike-everywhere (λ (x : Meaning). sameKind Other (x .kind)) (λ n. not (known table n)) table m refl (λ u. ap not (sym u))
+
+-- 04C6 and 0546 are "other".
+pub not-identified : (kindOf 0x04C6 ≡ Other) × (kindOf 0x0546 ≡ Other)
+unfolding meaningOf
+not-identified = (refl, refl)
+
+-- ---- announcements
+
+by-kind : (k : Kind) (e : ℕ) → announced k (Present e) ≡ cond (sameKind ConsumerIdentified k) (Of (single e)) (cond (sameKind ConsumerRangeIdentified k) (Of (blockOf e)) Nothing)
+by-kind InitializationComplete e = refl
+by-kind EventReport e = refl
+by-kind IdentifyConsumer e = refl
+by-kind IdentifyProducer e = refl
+by-kind ConsumerIdentified e = refl
+by-kind ProducerIdentified e = refl
+by-kind ConsumerRangeIdentified e = refl
+by-kind ProducerRangeIdentified e = refl
+by-kind IdentifyEvents e = refl
+by-kind LearnEvent e = refl
+by-kind Other e = refl
+
+-- A message with an event announces it by three MTIs, its block by one, and nothing by any other.
+pub announces-exactly : (m : Message) (e : ℕ) → m .event ≡ Present e
+    → announcementOf m ≡ cond (oneOf (0x04C4 ∷ 0x04C5 ∷ 0x04C7 ∷ []) (m .mti)) (Of (single e)) (cond (oneOf (0x04A4 ∷ []) (m .mti)) (Of (blockOf e)) Nothing)
+unfolding announcementOf mtisOf
+announces-exactly m e p =
+    ap (announced (kindOf (m .mti))) p
+    ∙ by-kind (kindOf (m .mti)) e
+    ∙ ap₂ (λ (a b : Bool). cond a (Of (single e)) (cond b (Of (blockOf e)) Nothing)) (kind-exactly ConsumerIdentified refl (m .mti)) (kind-exactly ConsumerRangeIdentified refl (m .mti))

@@ -1,0 +1,114 @@
+-- Only the two kinds of a consumer announce.
+use mathlib.Core.Path.{sym, ap, _∙_}
+use borrow.Author.Needs.{needs}
+use Rattle.message.specs.declared.Kind.{Kind}
+use Rattle.message.specs.declared.Field.the-variants.{Present}
+use Rattle.message.specs.declared.Announcement.the-variants.{Of}
+use Rattle.message.specs.Announcing.{announced}
+use Rattle.message.proofs.announcing.by_kind.Statement.{statement}
+use Rattle.message.proofs.announcing.by_kind.Tie as tie
+
+enum-told : tie.Need-enum-told
+enum-told c = search needs
+
+single-requires : tie.Need-single-requires
+single-requires c κs = search needs
+
+enum-told-2 : tie.Need-enum-told-2
+enum-told-2 c = search needs
+
+block-of-requires : tie.Need-block-of-requires
+block-of-requires c κs = search needs
+
+enum-told-3 : tie.Need-enum-told-3
+enum-told-3 c = search needs
+
+enum-told-4 : tie.Need-enum-told-4
+enum-told-4 c = search needs
+
+enum-told-5 : tie.Need-enum-told-5
+enum-told-5 c = search needs
+
+enum-told-6 : tie.Need-enum-told-6
+enum-told-6 c = search needs
+
+enum-told-7 : tie.Need-enum-told-7
+enum-told-7 c = search needs
+
+enum-told-8 : tie.Need-enum-told-8
+enum-told-8 c = search needs
+
+enum-told-9 : tie.Need-enum-told-9
+enum-told-9 c = search needs
+
+enum-told-10 : tie.Need-enum-told-10
+enum-told-10 c = search needs
+
+enum-told-11 : tie.Need-enum-told-11
+enum-told-11 c = search needs
+
+returns : tie.Need-returns
+returns c =
+    let n = c .before .before .before .args .number in
+    ap Of (c .single .ensures) ∙ sym (ap (λ (k : Kind). announced k (Present n)) (c .before .enum-told .given .1))
+
+returns-2 : tie.Need-returns-2
+returns-2 c =
+    let n = c .before .before .before .args .number in
+    ap Of (c .block-of .ensures) ∙ sym (ap (λ (k : Kind). announced k (Present n)) (c .before .enum-told2 .given .1))
+
+returns-3 : tie.Need-returns-3
+returns-3 c = search needs
+
+returns-4 : tie.Need-returns-4
+returns-4 c = search needs
+
+returns-5 : tie.Need-returns-5
+returns-5 c = search needs
+
+returns-6 : tie.Need-returns-6
+returns-6 c = search needs
+
+returns-7 : tie.Need-returns-7
+returns-7 c = search needs
+
+returns-8 : tie.Need-returns-8
+returns-8 c = search needs
+
+returns-9 : tie.Need-returns-9
+returns-9 c = search needs
+
+returns-10 : tie.Need-returns-10
+returns-10 c = search needs
+
+returns-11 : tie.Need-returns-11
+returns-11 c = search needs
+
+pub by-kind-spec : {M : Type 1} → statement M
+by-kind-spec =
+    tie.close
+    (tie.spec
+    enum-told
+    single-requires
+    enum-told-2
+    block-of-requires
+    enum-told-3
+    enum-told-4
+    enum-told-5
+    enum-told-6
+    enum-told-7
+    enum-told-8
+    enum-told-9
+    enum-told-10
+    enum-told-11
+    returns
+    returns-2
+    returns-3
+    returns-4
+    returns-5
+    returns-6
+    returns-7
+    returns-8
+    returns-9
+    returns-10
+    returns-11)

@@ -1,0 +1,6 @@
+pub mod Refusals
+pub mod Mti
+pub mod Messages
+pub mod Reading
+pub mod Writing
+pub mod Announcing
