@@ -1,25 +1,15 @@
-use Prim.Native.Nat.{ℕ, _+_, _≤_, _<_}
-use mathlib.Core.Bool.{Bool, true, false}
-use mathlib.Core.Path.{_≡_, refl, sym, ap, _∙_}
-use mathlib.Core.Logic.{_⊎_, ⊎-elim, inl, inr}
-use native.Mathlib.Omega.{arith}
-use borrow.Author.Tests.{ne-eqb, eqb-true, eqb-false}
-use lib.Dec.{eqb}
-use Rattle.message.specs.Mti.{meaningOf}
+-- Each arm is a row of the table, and the last is what is in none.
+use Prim.Native.Nat.{ℕ}
+use mathlib.Core.Path.{_≡_, sym, ap, _∙_}
+use mathlib.Core.Logic.{⊎-elim, inl, inr}
+use borrow.Author.Tests.{ne-eqb}
 use borrow.Author.Needs.{needs}
+use Rattle.message.specs.Mti.{meaningOf}
 use Rattle.message.proofs.mti.meaning_of.Statement.{statement}
 use Rattle.message.proofs.mti.meaning_of.Tie as tie
 
 row-of : {k m : ℕ} → m ≡ k → meaningOf k ≡ meaningOf m
 row-of e = sym (ap meaningOf e)
-
--- Two keys in a row are one range to the compiled match.
-pair-of : (k m : ℕ) → k ≤ m → m < k + 2 → (m ≡ k) ⊎ (m ≡ k + 1)
-pair-of k m l h = go (eqb m k) refl
-  where
-    go : (t : Bool) → eqb m k ≡ t → (m ≡ k) ⊎ (m ≡ k + 1)
-    go true e = inl (eqb-true m k e)
-    go false e = let other = eqb-false m k e in inr (omega arith)
 
 row-requires : tie.Need-row-requires
 row-requires c κs = search needs
@@ -57,6 +47,12 @@ row-requires-11 c κs = search needs
 row-requires-12 : tie.Need-row-requires-12
 row-requires-12 c κs = search needs
 
+row-requires-13 : tie.Need-row-requires-13
+row-requires-13 c κs = search needs
+
+row-requires-14 : tie.Need-row-requires-14
+row-requires-14 c κs = search needs
+
 returns : tie.Need-returns
 unfolding meaningOf
 returns c = c .row .ensures ∙ ⊎-elim row-of row-of (c .before .match .keys1)
@@ -79,58 +75,61 @@ returns-5 c = c .row5 .ensures ∙ row-of (c .before .match .keys5)
 
 returns-6 : tie.Need-returns-6
 unfolding meaningOf
-returns-6 c = c .row6 .ensures ∙ row-of (c .before .match .keys8)
+returns-6 c = c .row6 .ensures ∙ row-of (c .before .match .keys6)
 
 returns-7 : tie.Need-returns-7
 unfolding meaningOf
-returns-7 c = c .row7 .ensures ∙ row-of (c .before .match .keys9)
+returns-7 c = c .row7 .ensures ∙ ⊎-elim row-of row-of (c .before .match .keys7)
 
 returns-8 : tie.Need-returns-8
 unfolding meaningOf
-returns-8 c = c .row8 .ensures ∙ ⊎-elim row-of row-of (c .before .match .keys10)
+returns-8 c = c .row8 .ensures ∙ row-of (c .before .match .keys8)
 
 returns-9 : tie.Need-returns-9
 unfolding meaningOf
-returns-9 c = c .row9 .ensures ∙ row-of (c .before .match .keys11)
+returns-9 c = c .row9 .ensures ∙ ⊎-elim row-of row-of (c .before .match .keys9)
 
 returns-10 : tie.Need-returns-10
 unfolding meaningOf
-returns-10 c =
-    let m = c .before .before .before .args .mti in
-    let r = c .before .before .match .rest in
-    let apart : (m ≡ 0x04C4 → ⊥) × (m ≡ 0x04C5 → ⊥) × (m ≡ 0x0544 → ⊥) × (m ≡ 0x0545 → ⊥)
-    = ⊎-elim (λ w. omega arith) (⊎-elim (λ w. omega arith) (λ w. omega arith)) (c .before .if1 .came) in
-    c .row10 .ensures ∙ rw (
-      ne-eqb m 0x0100 (λ e. r .0 .0 .0 .0 .0 .0 .0 .0 .0 .0 .1 (inl e)),
-      ne-eqb m 0x0110 (λ e. r .0 .0 .0 .0 .0 .0 .0 .0 .0 .0 .1 (inr e)),
-      ne-eqb m 0x05B4 (r .0 .0 .0 .0 .0 .0 .0 .0 .0 .1),
-      ne-eqb m 0x0F14 (r .0 .0 .0 .0 .0 .0 .0 .0 .1),
-      ne-eqb m 0x08F4 (r .0 .0 .0 .0 .0 .0 .0 .1),
-      ne-eqb m 0x0914 (r .0 .0 .0 .0 .0 .0 .1),
-      ne-eqb m 0x04C4 (apart .0),
-      ne-eqb m 0x04C5 (apart .1),
-      ne-eqb m 0x04C7 (r .0 .0 .0 .0 .0 .1),
-      ne-eqb m 0x0544 (apart .2),
-      ne-eqb m 0x0545 (apart .3),
-      ne-eqb m 0x0547 (r .0 .0 .0 .0 .1),
+returns-10 c = c .row10 .ensures ∙ row-of (c .before .match .keys10)
+
+returns-11 : tie.Need-returns-11
+unfolding meaningOf
+returns-11 c = c .row11 .ensures ∙ row-of (c .before .match .keys11)
+
+returns-12 : tie.Need-returns-12
+unfolding meaningOf
+returns-12 c = c .row12 .ensures ∙ ⊎-elim row-of row-of (c .before .match .keys12)
+
+returns-13 : tie.Need-returns-13
+unfolding meaningOf
+returns-13 c = c .row13 .ensures ∙ row-of (c .before .match .keys13)
+
+returns-14 : tie.Need-returns-14
+unfolding meaningOf
+returns-14 c =
+    let m = c .before .before .args .mti in
+    let r = c .before .match .rest in
+    c .row14 .ensures
+    ∙ rw (
+      ne-eqb m 0x0100 (λ e. r .0 .0 .0 .0 .0 .0 .0 .0 .0 .0 .0 .0 .1 (inl e)),
+      ne-eqb m 0x0110 (λ e. r .0 .0 .0 .0 .0 .0 .0 .0 .0 .0 .0 .0 .1 (inr e)),
+      ne-eqb m 0x05B4 (r .0 .0 .0 .0 .0 .0 .0 .0 .0 .0 .0 .1),
+      ne-eqb m 0x0F14 (r .0 .0 .0 .0 .0 .0 .0 .0 .0 .0 .1),
+      ne-eqb m 0x08F4 (r .0 .0 .0 .0 .0 .0 .0 .0 .0 .1),
+      ne-eqb m 0x0914 (r .0 .0 .0 .0 .0 .0 .0 .0 .1),
+      ne-eqb m 0x04C4 (r .0 .0 .0 .0 .0 .0 .0 .1),
+      ne-eqb m 0x04C5 (λ e. r .0 .0 .0 .0 .0 .0 .1 (inl e)),
+      ne-eqb m 0x04C7 (λ e. r .0 .0 .0 .0 .0 .0 .1 (inr e)),
+      ne-eqb m 0x0544 (r .0 .0 .0 .0 .0 .1),
+      ne-eqb m 0x0545 (λ e. r .0 .0 .0 .0 .1 (inl e)),
+      ne-eqb m 0x0547 (λ e. r .0 .0 .0 .0 .1 (inr e)),
       ne-eqb m 0x04A4 (r .0 .0 .0 .1),
       ne-eqb m 0x0524 (r .0 .0 .1),
       ne-eqb m 0x0970 (λ e. r .0 .1 (inr e)),
       ne-eqb m 0x0968 (λ e. r .0 .1 (inl e)),
       ne-eqb m 0x0594 (r .1),
     )
-
-returns-11 : tie.Need-returns-11
-unfolding meaningOf
-returns-11 c =
-    c .row11 .ensures
-    ∙ ⊎-elim (λ w. row-of (w .keys7)) (λ w. ⊎-elim row-of row-of (pair-of 0x0544 (c .before .before .args .mti) (omega arith) (omega arith))) (c .before .match .came)
-
-returns-12 : tie.Need-returns-12
-unfolding meaningOf
-returns-12 c =
-    c .row12 .ensures
-    ∙ ⊎-elim (λ w. row-of (w .keys6)) (λ w. ⊎-elim row-of row-of (pair-of 0x04C4 (c .before .before .args .mti) (omega arith) (omega arith))) (c .before .match .came)
 
 pub meaning-of-spec : {M : Type 1} → statement M
 meaning-of-spec =
@@ -148,6 +147,8 @@ meaning-of-spec =
     row-requires-10
     row-requires-11
     row-requires-12
+    row-requires-13
+    row-requires-14
     returns
     returns-2
     returns-3
@@ -159,4 +160,6 @@ meaning-of-spec =
     returns-9
     returns-10
     returns-11
-    returns-12)
+    returns-12
+    returns-13
+    returns-14)
