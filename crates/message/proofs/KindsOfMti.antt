@@ -18,7 +18,7 @@ use Rattle.message.specs.Announcing.{announced, announcementOf}
 
 -- ---- which MTIs, by kind
 
-pub mtisOf : Kind → List ℕ
+unfoldable pub mtisOf : Kind → List ℕ
 mtisOf InitializationComplete = 0x0100 ∷ 0x0110 ∷ []
 mtisOf EventReport = 0x05B4 ∷ 0x0F14 ∷ []
 mtisOf IdentifyConsumer = 0x08F4 ∷ []

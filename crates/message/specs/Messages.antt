@@ -57,6 +57,19 @@ isRestart IdentifyEvents = false
 isRestart LearnEvent = false
 isRestart Other = false
 
+abbrev pub isReport : Kind → Bool
+isReport InitializationComplete = false
+isReport EventReport = true
+isReport IdentifyConsumer = false
+isReport IdentifyProducer = false
+isReport ConsumerIdentified = false
+isReport ProducerIdentified = false
+isReport ConsumerRangeIdentified = false
+isReport ProducerRangeIdentified = false
+isReport IdentifyEvents = false
+isReport LearnEvent = false
+isReport Other = false
+
 -- Refusal 5: Initialization Complete content is not the source.
 unfoldable pub otherSource : Message → List ℕ → Bool
 otherSource m content = isRestart (kindOf (m .mti)) && not (eqb (numberIn content) (m .source))

@@ -1,7 +1,6 @@
 -- The loop keeps within the output and within the six bytes.
 use Prim.Native.Nat.{_-_, _≤_}
 use mathlib.Core.Path.{_≡_}
-use native.Mathlib.Omega.{arith}
 use borrow.Author.Needs.{needs}
 use lib.ListN.{length, length-set}
 use Rattle.message_cases.proofs.report.fill.Statement.{statement}

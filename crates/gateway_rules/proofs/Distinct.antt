@@ -1,0 +1,112 @@
+-- G2: from a start a state is always in bounds and never has two equal lines; places past the count change nothing.
+use Prim.Native.Nat.{ℕ, zero, suc, _≤_, _<_}
+use mathlib.Core.Path.{_≡_, refl, sym, ap, ap₂, _∙_, subst}
+use mathlib.Core.Bool.{Bool, true, false, cond, not, _&&_, _||_, and-false}
+use mathlib.Core.List.{List, [], _∷_, _++_}
+use native.Mathlib.Nat.{le-refl, le-trans, le-suc}
+use borrow.Author.Tests.{not-true}
+use lib.ListN.{length, getD}
+use lib.Dec.{eqb}
+use Rattle.range.specs.Range.{bit}
+use Rattle.range.proofs.Laws.{both, same-truth}
+use Rattle.message.specs.declared.Message.{Message}
+use Rattle.message.proofs.Writings.{neither}
+use Rattle.gateway_rules.specs.declared.Line.{Line}
+use Rattle.gateway_rules.specs.declared.Gateway.{Gateway}
+use Rattle.gateway_rules.specs.State.{Gate, full, noLine, firstPlaces, gateOf, outOfBounds, startOf}
+use Rattle.gateway_rules.specs.Step.{sameLine, has, ownedAt, without, step, start}
+use Rattle.gateway_rules.specs.History.{Entry, after, Heard, accepted, told}
+use Rattle.gateway_rules.proofs.Lists.{same-line, has-append, has-without}
+use Rattle.gateway_rules.proofs.Sinces.{by-end, told-end}
+use Rattle.gateway_rules.proofs.Changes.{Change, change-of}
+use Rattle.gateway_rules.proofs.Changes.Change.{restarted, known, added, opened, passed}
+use Rattle.gateway_rules.proofs.Bounds.{bounded-in, bounded-start}
+use Rattle.gateway_rules.proofs.Hearing.{history-told}
+use Rattle.gateway_rules.proofs.Demand3.{start-taken}
+
+-- ---- lines that are all different
+
+unfoldable pub distinct : List Line → Bool
+distinct [] = true
+distinct (l ∷ lines) = not (has lines l) && distinct lines
+
+same-turned : (a b : Line) → sameLine a b ≡ sameLine b a
+same-turned a b =
+    same-truth (sameLine a b) (sameLine b a) (λ t. same-line b a .1 (sym (same-line a b .0 t))) (λ t. same-line a b .1 (sym (same-line b a .0 t)))
+
+distinct-append : (lines : List Line) (l : Line) → distinct lines ≡ true → has lines l ≡ false → distinct (lines ++ (l ∷ [])) ≡ true
+unfolding distinct
+distinct-append [] l d n = refl
+distinct-append (x ∷ xs) l d n =
+    let parts = both (not (has xs x)) (distinct xs) d in
+    let misses = neither (sameLine l x) (has xs l) n in
+    let fresh : has (xs ++ (l ∷ [])) x ≡ false
+    = has-append xs l x ∙ ap₂ (λ (a b : Bool). a || b) (not-true (has xs x) (parts .0)) (same-turned x l ∙ misses .0) in
+    ap₂ (λ (a b : Bool). not a && b) fresh (distinct-append xs l (parts .1) (misses .1))
+
+distinct-without : (test : Line → Bool) (lines : List Line) → distinct lines ≡ true → distinct (without test lines) ≡ true
+unfolding distinct
+distinct-without test [] d = refl
+distinct-without test (x ∷ xs) d = go (test x) (both (not (has xs x)) (distinct xs) d) (distinct-without test xs)
+  where
+    go : (t : Bool) → (not (has xs x) ≡ true) × (distinct xs ≡ true) → (distinct xs ≡ true → distinct (without test xs) ≡ true)
+        → distinct (cond t (without test xs) (x ∷ without test xs)) ≡ true
+    go true parts rest = rest (parts .1)
+    go false parts rest =
+        let gone : has (without test xs) x ≡ false
+        = has-without test xs x ∙ ap (λ (b : Bool). not (test x) && b) (not-true (has xs x) (parts .0)) ∙ and-false (not (test x)) in
+        ap₂ (λ (a b : Bool). not a && b) gone (rest (parts .1))
+
+distinct-change : (g : Gate) (q : ℕ) (m : Message) → distinct (g .lines) ≡ true → {g′ : Gate} → Change g q m g′ → distinct (g′ .lines) ≡ true
+distinct-change g q m d (restarted e) = distinct-without (ownedAt q (m .source)) (g .lines) d
+distinct-change g q m d (known b e t) = d
+distinct-change g q m d (added b e f room) = distinct-append (g .lines) _ d f
+distinct-change g q m d (opened b e f most) = d
+distinct-change g q m d (passed k e) = d
+
+distinct-told : (g : Gate) → distinct (g .lines) ≡ true → (h : List Heard) → distinct (told g h .lines) ≡ true
+distinct-told g d =
+    by-end (λ (h : List Heard). distinct (told g h .lines) ≡ true) d
+    (λ h s e. ap (λ (x : Gate). distinct (x .lines)) (told-end g h s) ∙ distinct-change (told g h) (s .port) (s .message) e (change-of (told g h) (s .port) (s .message)))
+
+none-distinct : distinct [] ≡ true
+unfolding distinct
+none-distinct = refl
+
+-- ---- from a start
+
+-- In bounds, at most 256 lines, and no two of them equal, after every history.
+pub always-in-bounds : (ports r : ℕ) → start ports r .refusal ≡ 0 → (h : List Entry)
+    → (outOfBounds (after (start ports r .next) h) ≡ false) × (length (after (start ports r .next) h .lines) ≤ full) × (distinct (after (start ports r .next) h .lines) ≡ true)
+always-in-bounds ports r s h =
+    let begun = start-taken ports r s in
+    let g = startOf ports r in
+    let left = history-told g (bounded-start ports r (begun .0)) h in
+    subst (λ (g : Gate). (outOfBounds (after g h) ≡ false) × (length (after g h .lines) ≤ full) × (distinct (after g h .lines) ≡ true)) (sym (begun .1)) (
+      bounded-in (after g h) (left .bounded),
+      left .bounded .few,
+      ap (λ (x : Gate). distinct (x .lines)) (left .as-told) ∙ distinct-told g none-distinct (accepted ports h),
+    )
+
+-- ---- places past the count
+
+first-same : (n : ℕ) (xs ys : List Line) → ((i : ℕ) → i < n → getD xs i noLine ≡ getD ys i noLine) → firstPlaces n xs ≡ firstPlaces n ys
+unfolding firstPlaces
+first-same zero xs ys h = refl
+first-same (suc n) xs ys h =
+    ap₂ (λ (front : List Line) (l : Line). front ++ (l ∷ [])) (first-same n xs ys (λ i l. h i (le-trans l (le-suc n)))) (h n (le-refl (suc n)))
+
+-- Two states of the code that differ only past the count.
+pub record SameToTheCount (a b : Gateway) : Type 0 where
+  pub ports : a .ports ≡ b .ports
+  pub automatic : a .automatic ≡ b .automatic
+  pub marks : a .marks ≡ b .marks
+  pub count : a .table .count ≡ b .table .count
+  pub places : (i : ℕ) → i < a .table .count → getD (a .table .lines) i noLine ≡ getD (b .table .lines) i noLine
+
+-- They get the same answers and the same next state.
+pub past-the-count : (a b : Gateway) → SameToTheCount a b → (q : ℕ) (bytes : List ℕ) → step (gateOf a) q bytes ≡ step (gateOf b) q bytes
+unfolding gateOf
+past-the-count a b s q bytes =
+    let lines = first-same (a .table .count) (a .table .lines) (b .table .lines) (s .places) ∙ ap (λ (n : ℕ). firstPlaces n (b .table .lines)) (s .count) in
+    λ i. step (record { ports = s .ports i; automatic = s .automatic i; lines = lines i; marked = λ p. eqb (bit p (s .marks i)) 1 }) q bytes

@@ -1,0 +1,98 @@
+-- That nothing above is vacuous, by computation: document 01's example, a live announcement, and a table that fills.
+use Prim.Native.Nat.{ℕ, zero, suc}
+use mathlib.Core.Path.{_≡_, refl}
+use mathlib.Core.Bool.{true, false, cond, false≢true}
+use mathlib.Core.List.{List, [], _∷_, _++_}
+use lib.ListN.{length}
+use Rattle.range.specs.Range.{bitsEqual, run, isBlock, inBlock, single, blockOf, sameBlock}
+use Rattle.numbers.specs.Numbers.{spelled, bytesOf}
+use Rattle.message.specs.declared.Field.the-variants.{Present, Absent}
+use Rattle.message.specs.Mti.{meaningOf}
+use Rattle.message.specs.Messages.{badNodes, badContent, otherSource}
+use Rattle.message.specs.Reading.{fieldsIn}
+use Rattle.message.specs.Announcing.{announcementOf}
+use Rattle.gateway_rules.specs.State.{Gate, outOfBounds, startOf}
+use Rattle.gateway_rules.specs.Step.{announce, taken, wants, goesTo, step}
+use Rattle.gateway_rules.specs.History.{Entry, Heard, Live, told}
+use Rattle.gateway_rules.specs.History.Never.{nothing, nor}
+
+-- ---- document 01's seven entries
+
+abbrev house : ℕ
+house = 0x010000000000FFFF
+
+abbrev entry : ℕ → List ℕ → Entry
+entry port bytes = record { port = port; bytes = bytes }
+
+abbrev withEvent : ℕ → ℕ → ℕ → List ℕ
+withEvent mti source event = bytesOf 2 mti ++ (bytesOf 6 source ++ bytesOf 8 event)
+
+abbrev initialized : ℕ → List ℕ
+initialized node = bytesOf 2 0x0100 ++ (bytesOf 6 node ++ bytesOf 6 node)
+
+abbrev seven : List Entry
+seven =
+    entry 1 (withEvent 0x04C4 0x0A0000000001 0x0A00000000010001)
+    ∷ entry 0 (withEvent 0x05B4 0x0A0000000009 0x0A00000000010001)
+    ∷ entry 1 (initialized 0x0A0000000002)
+    ∷ entry 0 (withEvent 0x05B4 0x0A0000000009 0x0A00000000010001)
+    ∷ entry 1 (initialized 0x0A0000000001)
+    ∷ entry 0 (withEvent 0x05B4 0x0A0000000009 0x0A00000000010001)
+    ∷ entry 4 []
+    ∷ []
+
+-- What is printed of an entry: the refusal, a digit for each of four ports, and the lines in the table.
+pub record Printed : Type 0 where
+  pub refusal : ℕ
+  pub digits : List ℕ
+  pub lines : ℕ
+
+abbrev printed : Gate → List Entry → List Printed
+printed g [] = []
+printed g (e ∷ h) =
+    let o = step g (e .port) (e .bytes) in
+    record {
+      refusal = o .refusal;
+      digits = cond (o .to 0) 1 0 ∷ cond (o .to 1) 1 0 ∷ cond (o .to 2) 1 0 ∷ cond (o .to 3) 1 0 ∷ [];
+      lines = length (o .next .lines);
+    } ∷ printed (o .next) h
+
+abbrev row : ℕ → ℕ → ℕ → ℕ → ℕ → ℕ → Printed
+row refusal a b c d lines = record { refusal = refusal; digits = a ∷ b ∷ c ∷ d ∷ []; lines = lines }
+
+pub seven-lines : printed (startOf 4 house) seven
+    ≡ row 0 1 0 1 1 1 ∷ row 0 0 1 0 0 1 ∷ row 0 1 0 1 1 1 ∷ row 0 0 1 0 0 1 ∷ row 0 1 0 1 1 0 ∷ row 0 0 0 0 0 0 ∷ row 8 0 0 0 0 0 ∷ []
+unfolding step outOfBounds isBlock inBlock blockOf run bitsEqual sameBlock wants goesTo taken announce announcementOf meaningOf fieldsIn badNodes badContent otherSource spelled bytesOf
+seven-lines = refl
+
+-- ---- a live announcement, and a table that fills
+
+abbrev board : ℕ
+board = 0x0A0000000001
+
+abbrev announcement : ℕ → Heard
+announcement e = record { port = 1; message = record { mti = 0x04C4; source = board; destination = Absent; event = Present e } }
+
+abbrev announcements : ℕ → List Heard
+announcements zero = []
+announcements (suc n) = announcements n ++ (announcement n ∷ [])
+
+pub something-live : Live (announcements 3) 1 board (single 1)
+unfolding Live announcementOf meaningOf
+something-live = record {
+  before = announcement 0 ∷ [];
+  by = announcement 1;
+  later = announcement 2 ∷ [];
+  split = refl;
+  started = record { here = refl; sender = refl; block = refl };
+  lasting = nor (λ r. false≢true (r .complete)) nothing;
+}
+
+-- 256 announcements fill the table, and the next opens the port.
+pub full-at-256 : (length (told (startOf 4 house) (announcements 256) .lines) ≡ 256) × (told (startOf 4 house) (announcements 256) .marked 1 ≡ false)
+unfolding taken announce announcementOf meaningOf sameBlock
+full-at-256 = (refl, refl)
+
+pub opens-at-257 : (length (told (startOf 4 house) (announcements 257) .lines) ≡ 256) × (told (startOf 4 house) (announcements 257) .marked 1 ≡ true)
+unfolding taken announce announcementOf meaningOf sameBlock
+opens-at-257 = (refl, refl)

@@ -1,0 +1,14 @@
+pub mod Lists
+pub mod Sinces
+pub mod Changes
+pub mod Holding
+pub mod Bounds
+pub mod Hearing
+pub mod Demand3
+pub mod Sending
+pub mod OwnLines
+pub mod Distinct
+pub mod Sharing
+pub mod Examples
+pub mod Reported
+pub mod PortSets

@@ -1,0 +1,122 @@
+-- Histories: accepted messages, live announcements and opened ports (document 01, "Gateway": "For demand 3").
+use Prim.Native.Nat.{ℕ}
+use mathlib.Core.Path.{_≡_}
+use mathlib.Core.Bool.{Bool, true, false, cond, not, _&&_, _||_}
+use mathlib.Core.List.{List, [], _∷_, _++_}
+use lib.Dec.{eqb, ltb}
+use lib.ListN.{length}
+use Rattle.range.specs.declared.Block.{Block}
+use Rattle.range.specs.Range.{inBlock}
+use Rattle.message.specs.declared.Field.the-variants.{Present}
+use Rattle.message.specs.declared.Message.{Message}
+use Rattle.message.specs.declared.Reading.{Reading}
+use Rattle.message.specs.declared.Reading.the-variants.{Read, Refused}
+use Rattle.message.specs.declared.Announcement.{Announcement}
+use Rattle.message.specs.declared.Announcement.the-variants.{Of, Nothing}
+use Rattle.message.specs.Mti.{kindOf}
+use Rattle.message.specs.Messages.{isRestart, isReport}
+use Rattle.message.specs.Reading.{readOf}
+use Rattle.message.specs.Announcing.{announcementOf}
+use Rattle.gateway_rules.specs.State.{Gate, full}
+use Rattle.gateway_rules.specs.Step.{line, has, without, taken, step}
+
+-- A history is a list of (port, bytes), refused ones among them, the oldest first.
+pub record Entry : Type 0 where
+  pub port : ℕ
+  pub bytes : List ℕ
+
+-- The state that a history leaves.
+abbrev pub after : Gate → List Entry → Gate
+after g [] = g
+after g (e ∷ h) = after (step g (e .port) (e .bytes) .next) h
+
+-- ---- the accepted messages, without the table
+
+pub record Heard : Type 0 where
+  pub port : ℕ
+  pub message : Message
+
+abbrev pub heardAt : ℕ → Reading → List Heard
+heardAt q (Read m) = record { port = q; message = m } ∷ []
+heardAt q (Refused n) = []
+
+-- A message is accepted where its port is below the port count and its bytes are read.
+unfoldable pub accepted : ℕ → List Entry → List Heard
+accepted ports [] = []
+accepted ports (e ∷ h) = cond (ltb (e .port) ports) (heardAt (e .port) (readOf (e .bytes))) [] ++ accepted ports h
+
+-- ---- what a message says
+
+pub record Announces (p n : ℕ) (b : Block) (s : Heard) : Type 0 where
+  pub here : s .port ≡ p
+  pub sender : s .message .source ≡ n
+  pub block : announcementOf (s .message) ≡ Of b
+
+pub record Restarts (p n : ℕ) (s : Heard) : Type 0 where
+  pub here : s .port ≡ p
+  pub node : s .message .source ≡ n
+  pub complete : isRestart (kindOf (s .message .mti)) ≡ true
+
+-- ---- since
+
+-- Nothing in a list ends it.
+pub data Never (ends : Heard → Type 0) : List Heard → Type 0 where
+  nothing : Never ends []
+  nor : {s : Heard} {h : List Heard} → (ends s → ⊥) → Never ends h → Never ends (s ∷ h)
+
+-- Somewhere a message starts it, given those before, and none after that one ends it.
+pub record Since (starts : List Heard → Heard → Type 0) (ends : Heard → Type 0) (h : List Heard) : Type 0 where
+  pub before : List Heard
+  pub by : Heard
+  pub later : List Heard
+  pub split : h ≡ before ++ (by ∷ later)
+  pub started : starts before by
+  pub lasting : Never ends later
+
+-- An announcement is live from when it is accepted until that node restarts at that port.
+unfoldable pub Live : List Heard → ℕ → ℕ → Block → Type 0
+Live h p n b = Since (λ _ s. Announces p n b s) (Restarts p n) h
+
+-- ---- opened by a full table
+
+-- The state that accepted messages have left, by the steps.
+abbrev pub told : Gate → List Heard → Gate
+told g [] = g
+told g (s ∷ h) = told (taken g (s .port) (s .message)) h
+
+-- An announcement at p for which there is no line meets a full table.
+pub record Overflows (g : Gate) (p : ℕ) (before : List Heard) (s : Heard) : Type 0 where
+  pub node : ℕ
+  pub block : Block
+  pub announces : Announces p node block s
+  pub new : has (told g before .lines) (line p node block) ≡ false
+  pub met : length (told g before .lines) ≡ full
+
+unfoldable pub Opened : Gate → List Heard → ℕ → Type 0
+Opened g h p = Since (Overflows g p) (λ _. ⊥) h
+
+-- ---- demand 3
+
+-- A report of an event.
+pub record Reports (e : ℕ) (m : Message) : Type 0 where
+  pub report : isReport (kindOf (m .mti)) ≡ true
+  pub event : m .event ≡ Present e
+
+-- Its event is not automatic, no live announcement at the port holds it, and the port was never opened by a full table.
+pub record HeldBack (g : Gate) (h : List Heard) (p e : ℕ) : Type 0 where
+  pub not-automatic : inBlock (g .automatic) e ≡ false
+  pub not-live : (n : ℕ) (b : Block) → Live h p n b → inBlock b e ≡ true → ⊥
+  pub not-opened : Opened g h p → ⊥
+
+-- ---- sharing
+
+abbrev pub announcing : Announcement → Bool
+announcing (Of b) = true
+announcing Nothing = false
+
+-- The accepted announcements and Initialization Completes at port p, in the same order.
+abbrev pub concerns : ℕ → Heard → Bool
+concerns p s = eqb (s .port) p && (isRestart (kindOf (s .message .mti)) || announcing (announcementOf (s .message)))
+
+unfoldable pub concerning : ℕ → List Heard → List Heard
+concerning p h = without (λ s. not (concerns p s)) h

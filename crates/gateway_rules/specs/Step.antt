@@ -1,0 +1,123 @@
+-- What the box does with a message (document 01, "Gateway": "For a message accepted at port q"; order of refusals 7, 8, then reading).
+use Prim.Native.Nat.{ℕ, zero, suc, _+_, _^_}
+use mathlib.Core.Bool.{Bool, true, false, cond, not, _&&_, _||_}
+use mathlib.Core.List.{List, [], _∷_, _++_}
+use lib.Dec.{eqb, leb, ltb}
+use lib.ListN.{length}
+use Rattle.range.specs.declared.Block.{Block}
+use Rattle.range.specs.Range.{inBlock, sameBlock}
+use Rattle.message.specs.declared.Field.{Field}
+use Rattle.message.specs.declared.Field.the-variants.{Present, Absent}
+use Rattle.message.specs.declared.Message.{Message}
+use Rattle.message.specs.declared.Announcement.{Announcement}
+use Rattle.message.specs.declared.Announcement.the-variants.{Of, Nothing}
+use Rattle.message.specs.Mti.{kindOf}
+use Rattle.message.specs.Messages.{isRestart, isReport}
+use Rattle.message.specs.Reading.{messageIn, readTests}
+use Rattle.message.specs.Announcing.{announcementOf}
+use Rattle.message.specs.Refusals.{Test, refuse, firstOf, answered}
+use Rattle.gateway_rules.specs.declared.Line.{Line}
+use Rattle.gateway_rules.specs.State.{Gate, full, any, badPorts, outOfBounds, startOf}
+
+-- ---- lines
+
+abbrev pub line : ℕ → ℕ → Block → Line
+line port node block = record { port = port; node = node; block = block }
+
+abbrev pub sameLine : Line → Line → Bool
+sameLine a b = eqb (a .port) (b .port) && (eqb (a .node) (b .node) && sameBlock (a .block) (b .block))
+
+-- A line already there.
+abbrev pub has : List Line → Line → Bool
+has lines l = any (sameLine l) lines
+
+-- The lines of a node at a port.
+abbrev pub ownedAt : ℕ → ℕ → Line → Bool
+ownedAt port node l = eqb (l .port) port && eqb (l .node) node
+
+-- The rest keeping their order.
+abbrev pub without : {A : Type 0} → (A → Bool) → List A → List A
+without test [] = []
+without test (x ∷ xs) = cond (test x) (without test xs) (x ∷ without test xs)
+
+-- ---- how a message changes the state
+
+abbrev pub withLines : Gate → List Line → Gate
+withLines g lines = record { ports = g .ports; automatic = g .automatic; lines = lines; marked = g .marked }
+
+abbrev pub opening : Gate → ℕ → Gate
+opening g q = record { ports = g .ports; automatic = g .automatic; lines = g .lines; marked = λ p. eqb p q || g .marked p }
+
+-- Added at the end.
+abbrev pub adding : Gate → Line → Gate
+adding g l = withLines g (g .lines ++ (l ∷ []))
+
+-- A line already there: no change. Else, under 256 lines: added at the end. Else q becomes open.
+unfoldable pub announce : Gate → Line → Gate
+announce g l = cond (has (g .lines) l) g (cond (ltb (length (g .lines)) full) (adding g l) (opening g (l .port)))
+
+-- Initialization Complete removes the source's lines at port q. An open mark stays.
+abbrev pub restart : Gate → ℕ → ℕ → Gate
+restart g q node = withLines g (without (ownedAt q node) (g .lines))
+
+abbrev pub hear : Gate → ℕ → ℕ → Announcement → Gate
+hear g q node (Of b) = announce g (line q node b)
+hear g q node Nothing = g
+
+-- Nothing else changes the state.
+unfoldable pub taken : Gate → ℕ → Message → Gate
+taken g q m = cond (isRestart (kindOf (m .mti))) (restart g q (m .source)) (hear g q (m .source) (announcementOf m))
+
+-- ---- where a message goes
+
+-- A line for p holds the event.
+abbrev pub lineHolds : ℕ → ℕ → Line → Bool
+lineHolds p e l = eqb (l .port) p && inBlock (l .block) e
+
+-- An event report goes where the automatic block holds the event, or p is open, or a line for p holds it.
+unfoldable pub wants : Gate → ℕ → ℕ → Bool
+wants g p e = inBlock (g .automatic) e || (g .marked p || any (lineHolds p e) (g .lines))
+
+abbrev pub wantsReport : Gate → ℕ → Field → Bool
+wantsReport g p (Present e) = wants g p e
+wantsReport g p Absent = true
+
+-- Every other message goes to all ports but q.
+unfoldable pub goesTo : Gate → ℕ → Message → ℕ → Bool
+goesTo g q m p = ltb p (g .ports) && (not (eqb p q) && cond (isReport (kindOf (m .mti))) (wantsReport g p (m .event)) true)
+
+-- A set of ports as a number: bit p for port p.
+unfoldable pub portSet : ℕ → (ℕ → Bool) → ℕ
+portSet zero to = 0
+portSet (suc n) to = portSet n to + cond (to n) (2 ^ n) 0
+
+-- ---- the step
+
+pub record Outcome : Type 0 where
+  pub refusal : ℕ
+  pub to : ℕ → Bool
+  pub next : Gate
+
+abbrev pub taking : Gate → ℕ → Message → Outcome
+taking g q m = record { refusal = 0; to = goesTo g q m; next = taken g q m }
+
+-- A refusal sends nothing and keeps the state.
+abbrev pub refusing : Gate → ℕ → Outcome
+refusing g n = record { refusal = n; to = λ _. false; next = g }
+
+-- Gateway: 7, 8, then reading. Port not below the port count is 8.
+abbrev pub stepTests : Gate → ℕ → List ℕ → List Test
+stepTests g q bytes = refuse 7 (outOfBounds g) ∷ refuse 8 (leb (g .ports) q) ∷ readTests bytes
+
+unfoldable pub step : Gate → ℕ → List ℕ → Outcome
+step g q bytes = answered (taking g q) (refusing g) (firstOf (stepTests g q bytes)) (messageIn bytes)
+
+-- At start, port count not 2 to 8 is 8, with the same state at 0 ports.
+abbrev pub startTests : ℕ → List Test
+startTests ports = refuse 8 (badPorts ports) ∷ []
+
+abbrev pub starting : ℕ → Gate → Outcome
+starting n g = record { refusal = n; to = λ _. false; next = g }
+
+unfoldable pub start : ℕ → ℕ → Outcome
+start ports r = answered (starting 0) (λ n. starting n (startOf 0 r)) (firstOf (startTests ports)) (startOf ports r)
