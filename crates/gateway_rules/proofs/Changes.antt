@@ -13,8 +13,7 @@ use Rattle.message.specs.declared.Field.{Field}
 use Rattle.message.specs.declared.Message.{Message}
 use Rattle.message.specs.declared.Announcement.{Announcement}
 use Rattle.message.specs.declared.Announcement.the-variants.{Of, Nothing}
-use Rattle.message.specs.Mti.{kindOf}
-use Rattle.message.specs.Messages.{isRestart}
+use Rattle.message.specs.Mti.{isRestart, kindOf}
 use Rattle.message.specs.Announcing.{announced, announcementOf}
 use Rattle.gateway_rules.specs.State.{Gate, full}
 use Rattle.gateway_rules.specs.Step.{line, has, adding, opening, announce, restart, hear, taken}

@@ -6,35 +6,20 @@ use mathlib.Core.Bool.{Bool, true, false, _||_, false≢true}
 use mathlib.Core.List.{List, []}
 use borrow.Author.Tests.{eqb-true}
 use lib.Dec.{eqb}
-use Rattle.message.specs.declared.Kind.{Kind}
-use Rattle.message.specs.declared.Kind.the-variants.{InitializationComplete, EventReport, IdentifyConsumer, IdentifyProducer, ConsumerIdentified, ProducerIdentified, ConsumerRangeIdentified, ProducerRangeIdentified, IdentifyEvents, LearnEvent, Other}
+use Rattle.message.specs.declared.Kind.the-variants.{EventReport}
 use Rattle.message.specs.declared.Message.{Message}
 use Rattle.message.specs.declared.Reading.the-variants.{Read}
-use Rattle.message.specs.Mti.{carriesEvent, eventAt, kindOf}
-use Rattle.message.specs.Messages.{isReport}
+use Rattle.message.specs.Mti.{isReport, carriesEvent, eventAt, kindOf}
 use Rattle.message.specs.Reading.{numberAt, fieldAt, fieldsIn, mtiIn, readOf}
 use Rattle.message.proofs.Exactly.{read-accepted}
-use Rattle.message.proofs.KindsOfMti.{mtisOf, sameKind, kind-exactly}
+use Rattle.message.proofs.KindsOfMti.{mtisOf, kind-exactly}
 use Rattle.gateway_rules.specs.History.{Reports}
 use Rattle.gateway_rules.proofs.Holding.{either-true}
-
-report-kind : (k : Kind) → isReport k ≡ sameKind EventReport k
-report-kind InitializationComplete = refl
-report-kind EventReport = refl
-report-kind IdentifyConsumer = refl
-report-kind IdentifyProducer = refl
-report-kind ConsumerIdentified = refl
-report-kind ProducerIdentified = refl
-report-kind ConsumerRangeIdentified = refl
-report-kind ProducerRangeIdentified = refl
-report-kind IdentifyEvents = refl
-report-kind LearnEvent = refl
-report-kind Other = refl
 
 report-carries : (m : ℕ) → isReport (kindOf m) ≡ true → carriesEvent m ≡ true
 unfolding mtisOf
 report-carries m e =
-    let one = sym (kind-exactly EventReport refl m) ∙ sym (report-kind (kindOf m)) ∙ e in
+    let one = sym (kind-exactly EventReport refl m) ∙ e in
     ⊎-elim (λ t. ap carriesEvent (eqb-true m 0x05B4 t))
     (λ t. ⊎-elim (λ u. ap carriesEvent (eqb-true m 0x0F14 u)) (λ u. absurd (false≢true u)) (either-true (eqb m 0x0F14) false t))
     (either-true (eqb m 0x05B4) (eqb m 0x0F14 || false) one)

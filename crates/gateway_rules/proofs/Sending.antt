@@ -8,8 +8,7 @@ use borrow.Author.Tests.{ltb-true, lt-ltb, eq-eqb, ne-eqb, eqb-false, not-true, 
 use lib.Dec.{eqb, ltb, leb}
 use Rattle.range.proofs.Laws.{both}
 use Rattle.message.specs.declared.Message.{Message}
-use Rattle.message.specs.Mti.{kindOf}
-use Rattle.message.specs.Messages.{isReport}
+use Rattle.message.specs.Mti.{isReport, kindOf}
 use Rattle.message.specs.Reading.{messageIn}
 use Rattle.message.specs.Refusals.{firstOf, answered, None, Given}
 use Rattle.message.proofs.Firsts.{first-none, first-given}

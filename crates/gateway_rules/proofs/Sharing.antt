@@ -8,8 +8,7 @@ use borrow.Author.Tests.{eq-eqb}
 use Rattle.range.specs.declared.Block.{Block}
 use Rattle.range.specs.Range.{blockOf}
 use Rattle.message.specs.Refusals.{firstOf, answered}
-use Rattle.message.specs.Mti.{kindOf}
-use Rattle.message.specs.Messages.{isRestart}
+use Rattle.message.specs.Mti.{isRestart, kindOf}
 use Rattle.message.specs.Reading.{messageIn}
 use Rattle.message.specs.Announcing.{announcementOf}
 use Rattle.gateway_rules.specs.State.{Gate, startOf}

@@ -13,8 +13,7 @@ use Rattle.message.specs.declared.Reading.{Reading}
 use Rattle.message.specs.declared.Reading.the-variants.{Read, Refused}
 use Rattle.message.specs.declared.Announcement.{Announcement}
 use Rattle.message.specs.declared.Announcement.the-variants.{Of, Nothing}
-use Rattle.message.specs.Mti.{kindOf}
-use Rattle.message.specs.Messages.{isRestart, isReport}
+use Rattle.message.specs.Mti.{isRestart, isReport, kindOf}
 use Rattle.message.specs.Reading.{readOf}
 use Rattle.message.specs.Announcing.{announcementOf}
 use Rattle.gateway_rules.specs.State.{Gate, full}

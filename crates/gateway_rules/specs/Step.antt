@@ -11,8 +11,7 @@ use Rattle.message.specs.declared.Field.the-variants.{Present, Absent}
 use Rattle.message.specs.declared.Message.{Message}
 use Rattle.message.specs.declared.Announcement.{Announcement}
 use Rattle.message.specs.declared.Announcement.the-variants.{Of, Nothing}
-use Rattle.message.specs.Mti.{kindOf}
-use Rattle.message.specs.Messages.{isRestart, isReport}
+use Rattle.message.specs.Mti.{isRestart, isReport, kindOf}
 use Rattle.message.specs.Reading.{messageIn, readTests}
 use Rattle.message.specs.Announcing.{announcementOf}
 use Rattle.message.specs.Refusals.{Test, refuse, firstOf, answered}

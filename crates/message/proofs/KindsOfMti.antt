@@ -13,7 +13,7 @@ use Rattle.message.specs.declared.Meaning.{Meaning}
 use Rattle.message.specs.declared.Field.the-variants.{Present}
 use Rattle.message.specs.declared.Message.{Message}
 use Rattle.message.specs.declared.Announcement.the-variants.{Of, Nothing}
-use Rattle.message.specs.Mti.{Row, table, other, lookup, meaningOf, kindOf}
+use Rattle.message.specs.Mti.{sameKind, Row, table, other, lookup, meaningOf, kindOf}
 use Rattle.message.specs.Announcing.{announced, announcementOf}
 
 -- ---- which MTIs, by kind
@@ -30,23 +30,6 @@ mtisOf ProducerRangeIdentified = 0x0524 ∷ []
 mtisOf IdentifyEvents = 0x0970 ∷ 0x0968 ∷ []
 mtisOf LearnEvent = 0x0594 ∷ []
 mtisOf Other = []
-
-abbrev place : Kind → ℕ
-place InitializationComplete = 0
-place EventReport = 1
-place IdentifyConsumer = 2
-place IdentifyProducer = 3
-place ConsumerIdentified = 4
-place ProducerIdentified = 5
-place ConsumerRangeIdentified = 6
-place ProducerRangeIdentified = 7
-place IdentifyEvents = 8
-place LearnEvent = 9
-place Other = 10
-
--- Whether two kinds are the same.
-abbrev pub sameKind : Kind → Kind → Bool
-sameKind a b = eqb (place a) (place b)
 
 abbrev pub oneOf : List ℕ → ℕ → Bool
 oneOf [] m = false

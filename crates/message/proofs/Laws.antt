@@ -10,8 +10,8 @@ use Rattle.numbers.specs.Numbers.{numberIn}
 use Rattle.range.proofs.Laws.{both}
 use Rattle.message.specs.declared.Meaning.{Meaning}
 use Rattle.message.specs.declared.Message.{Message}
-use Rattle.message.specs.Mti.{Row, addressed, carriesEvent, table, other, lookup, meaningOf, kindOf}
-use Rattle.message.specs.Messages.{badNode, badWherePresent, badNodes, misplaced, badContent, isRestart, otherSource}
+use Rattle.message.specs.Mti.{isRestart, Row, addressed, carriesEvent, table, other, lookup, meaningOf, kindOf}
+use Rattle.message.specs.Messages.{badNode, badWherePresent, badNodes, misplaced, badContent, otherSource}
 
 -- ---- the table
 

@@ -1,16 +1,14 @@
 -- A message and its bytes (document 01, "Messages" and "Refusal numbers").
 use Prim.Native.Nat.{ℕ, _^_}
-use mathlib.Core.Bool.{Bool, true, false, not, _&&_, _||_}
+use mathlib.Core.Bool.{Bool, false, not, _&&_, _||_}
 use mathlib.Core.List.{List, [], _∷_, _++_}
 use lib.Dec.{eqb, leb, ltb}
 use lib.ListN.{length}
 use Rattle.numbers.specs.Numbers.{numberIn, bytesOf}
-use Rattle.message.specs.declared.Kind.{Kind}
-use Rattle.message.specs.declared.Kind.the-variants.{InitializationComplete, EventReport, IdentifyConsumer, IdentifyProducer, ConsumerIdentified, ProducerIdentified, ConsumerRangeIdentified, ProducerRangeIdentified, IdentifyEvents, LearnEvent, Other}
 use Rattle.message.specs.declared.Field.{Field}
 use Rattle.message.specs.declared.Field.the-variants.{Present, Absent}
 use Rattle.message.specs.declared.Message.{Message}
-use Rattle.message.specs.Mti.{addressed, carriesEvent, meaningOf, kindOf}
+use Rattle.message.specs.Mti.{addressed, carriesEvent, isRestart, meaningOf, kindOf}
 use Rattle.message.specs.Refusals.{Test, refuse}
 
 -- A field of w bytes, where it is present.
@@ -43,32 +41,6 @@ badContent m content =
     || (misplaced (carriesEvent (m .mti)) (m .event)
     || (ltb (length content) (meaningOf (m .mti) .least)
     || ltb (meaningOf (m .mti) .most) (length content)))
-
-abbrev pub isRestart : Kind → Bool
-isRestart InitializationComplete = true
-isRestart EventReport = false
-isRestart IdentifyConsumer = false
-isRestart IdentifyProducer = false
-isRestart ConsumerIdentified = false
-isRestart ProducerIdentified = false
-isRestart ConsumerRangeIdentified = false
-isRestart ProducerRangeIdentified = false
-isRestart IdentifyEvents = false
-isRestart LearnEvent = false
-isRestart Other = false
-
-abbrev pub isReport : Kind → Bool
-isReport InitializationComplete = false
-isReport EventReport = true
-isReport IdentifyConsumer = false
-isReport IdentifyProducer = false
-isReport ConsumerIdentified = false
-isReport ProducerIdentified = false
-isReport ConsumerRangeIdentified = false
-isReport ProducerRangeIdentified = false
-isReport IdentifyEvents = false
-isReport LearnEvent = false
-isReport Other = false
 
 -- Refusal 5: Initialization Complete content is not the source.
 unfoldable pub otherSource : Message → List ℕ → Bool

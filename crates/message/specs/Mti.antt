@@ -1,6 +1,6 @@
 -- What an MTI means (document 01, "Messages"; 003 section 3.1.1; 001 section 4).
 use Prim.Native.Nat.{ℕ, _+_}
-use mathlib.Core.Bool.{Bool, cond, _||_}
+use mathlib.Core.Bool.{Bool, true, false, cond, _||_}
 use mathlib.Core.List.{List, [], _∷_}
 use lib.Dec.{eqb}
 use Rattle.range.specs.Range.{bit}
@@ -25,6 +25,44 @@ contentAt m = eventAt m + cond (carriesEvent m) 8 0
 -- Refusal 2: MTI bit 15 or 14 set, or 0F15, or 0F16.
 abbrev pub barred : ℕ → Bool
 barred m = eqb (bit 15 m) 1 || (eqb (bit 14 m) 1 || (eqb m 0x0F15 || eqb m 0x0F16))
+
+-- ---- kinds
+
+abbrev pub place : Kind → ℕ
+place InitializationComplete = 0
+place EventReport = 1
+place IdentifyConsumer = 2
+place IdentifyProducer = 3
+place ConsumerIdentified = 4
+place ProducerIdentified = 5
+place ConsumerRangeIdentified = 6
+place ProducerRangeIdentified = 7
+place IdentifyEvents = 8
+place LearnEvent = 9
+place Other = 10
+
+-- Whether two kinds are the same.
+abbrev pub sameKind : Kind → Kind → Bool
+sameKind a b = eqb (place a) (place b)
+
+-- Initialization Complete.
+abbrev pub isRestart : Kind → Bool
+isRestart InitializationComplete = true
+isRestart EventReport = false
+isRestart IdentifyConsumer = false
+isRestart IdentifyProducer = false
+isRestart ConsumerIdentified = false
+isRestart ProducerIdentified = false
+isRestart ConsumerRangeIdentified = false
+isRestart ProducerRangeIdentified = false
+isRestart IdentifyEvents = false
+isRestart LearnEvent = false
+isRestart Other = false
+
+abbrev pub isReport : Kind → Bool
+isReport k = sameKind EventReport k
+
+-- ---- the table
 
 -- The table of messages: an MTI, its kind, and the least and the most content bytes.
 pub record Row : Type 0 where

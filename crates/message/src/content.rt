@@ -1,7 +1,8 @@
 // What reading and writing both test of a message and its content.
 ghost use mathlib.Core.Path.{_≡_};
 ghost use Rattle.message.specs.Refusals.{firstOf};
-ghost use Rattle.message.specs.Messages.{badNode, badWherePresent, misplaced as isMisplaced, isRestart, contentTests};
+ghost use Rattle.message.specs.Messages.{badNode, badWherePresent, misplaced as isMisplaced, contentTests};
+ghost use Rattle.message.specs.Mti.{isRestart};
 use crate::Field;
 use crate::Kind;
 use crate::Message;

@@ -12,8 +12,8 @@ use Rattle.numbers.specs.Numbers.{numberIn}
 use Rattle.numbers.proofs.Laws.{number-fits}
 use Rattle.message.specs.declared.Message.{Message}
 use Rattle.message.specs.declared.Meaning.{Meaning}
-use Rattle.message.specs.Mti.{meaningOf, kindOf}
-use Rattle.message.specs.Messages.{badNodes, badContent, isRestart}
+use Rattle.message.specs.Mti.{isRestart, meaningOf, kindOf}
+use Rattle.message.specs.Messages.{badNodes, badContent}
 use Rattle.message.proofs.Laws.{nodes-source, nodes-destination, nodes-good, Placed, content-destination, content-event, content-short, content-long, content-good, source-any, source-same, source-other, restart-six}
 use Rattle.message.proofs.content.refusal_of.Statement.{statement}
 use Rattle.message.proofs.content.refusal_of.Tie as tie
