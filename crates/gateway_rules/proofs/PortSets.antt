@@ -1,13 +1,14 @@
 -- A set of ports as a number: bit p says whether port p is in it.
 use Prim.Native.Nat.{ℕ, zero, suc, _+_, _-_, _*_, _/_, _%_, _^_, _<_}
-use mathlib.Core.Path.{_≡_, refl, sym, ap, _∙_, subst}
+use mathlib.Core.Path.{_≡_, refl, sym, ap, ap₂, _∙_, subst}
 use mathlib.Core.Logic.{⊎-elim}
-use mathlib.Core.Bool.{Bool, true, false, cond}
-use native.Mathlib.Nat.{pow-suc, mul-add-div-right, eq-or-lt-of-le, le-of-suc-le-suc, not-suc-le-zero, add-comm, add-zero}
+use mathlib.Core.Bool.{Bool, true, false, cond, _||_, or-false, or-true}
+use native.Mathlib.Nat.{le-refl, le-trans, le-suc, pow-suc, mod-lt, mod-add-div', div-lt-iff-lt-mul, mul-add-div-right, eq-or-lt-of-le, le-of-suc-le-suc, not-suc-le-zero, add-comm, add-zero, zero-mul, one-mul}
+use native.Mathlib.Numerals.{add-one}
 use native.Mathlib.Omega.{arith}
-use borrow.Author.Tests.{eq-eqb}
+use borrow.Author.Tests.{eq-eqb, ne-eqb, eqb-true}
 use lib.Dec.{eqb}
-use lib.Pow.{pow-pos, pow-add, high}
+use lib.Pow.{pow-pos, pow-add, high, field, mod-mod-pow}
 use Rattle.range.specs.Range.{bit}
 use Rattle.gateway_rules.specs.Step.{portSet}
 
@@ -17,7 +18,7 @@ unfolding portSet
 nobody zero = refl
 nobody (suc n) = ap (λ (x : ℕ). x + 0) (nobody n)
 
-set-below : (n : ℕ) (to : ℕ → Bool) → portSet n to < 2 ^ n
+pub set-below : (n : ℕ) (to : ℕ → Bool) → portSet n to < 2 ^ n
 unfolding portSet
 set-below zero to = omega arith
 set-below (suc n) to = go (to n) (set-below n to)
@@ -53,3 +54,64 @@ port-in-set (suc n) to p l =
     ⊎-elim (λ e. subst (λ (x : ℕ). eqb (bit x (portSet n to + cond (to n) (2 ^ n) 0)) 1 ≡ to x) (sym e) (top-bit n (portSet n to) (to n) (set-below n to)))
     (λ k. ap (λ (y : ℕ). eqb y 1) (low-bit n p (portSet n to) (to n) k) ∙ port-in-set n to p k)
     (eq-or-lt-of-le (le-of-suc-le-suc l))
+
+-- ---- sets that are put together
+
+-- A digit that is 0 or 1, at its place.
+top-digit : (d w : ℕ) → d < 2 → cond (eqb (d % 2) 1) w 0 ≡ d * w
+top-digit zero w h = sym (zero-mul w)
+top-digit (suc zero) w h = sym (one-mul w)
+top-digit (suc (suc d)) w h = absurd (not-suc-le-zero (le-of-suc-le-suc (le-of-suc-le-suc h)))
+
+-- The bits below the n lowest are those of the rest.
+bit-low : (x n p : ℕ) → p < n → bit p (x % 2 ^ n) ≡ bit p x
+bit-low x n p l =
+    let j : ℕ = n - suc p in
+    let width : suc j + p ≡ n = omega arith in
+    let part : x % 2 ^ n / 2 ^ p ≡ x / 2 ^ p % 2 ^ suc j = ap (λ (k : ℕ). x % 2 ^ k / 2 ^ p) (sym width) ∙ field x (suc j) p in
+    ap (λ (y : ℕ). y % 2) part ∙ ap (λ (k : ℕ). x / 2 ^ p % 2 ^ k % 2) (sym (add-one j)) ∙ mod-mod-pow (x / 2 ^ p) j 1
+
+pub set-ext : (n : ℕ) (f g : ℕ → Bool) → ((p : ℕ) → p < n → f p ≡ g p) → portSet n f ≡ portSet n g
+unfolding portSet
+set-ext zero f g h = refl
+set-ext (suc n) f g h =
+    ap₂ (λ (x : ℕ) (t : Bool). x + cond t (2 ^ n) 0) (set-ext n f g (λ p l. h p (le-trans l (le-suc n)))) (h n (le-refl (suc n)))
+
+-- A number is the set of its bits.
+pub set-of-bits : (n x : ℕ) → x < 2 ^ n → portSet n (λ p. eqb (bit p x) 1) ≡ x
+unfolding portSet
+set-of-bits zero x h = omega arith
+set-of-bits (suc n) x h =
+    let low = x % 2 ^ n in
+    let below : low < 2 ^ n = mod-lt x (pow-pos n) in
+    let whole : low + x / 2 ^ n * 2 ^ n ≡ x = mod-add-div' x (2 ^ n) in
+    let one : x / 2 ^ n < 2 = div-lt-iff-lt-mul (pow-pos n) .1 (omega (arith, pow-suc 2 n)) in
+    let top : cond (eqb (x / 2 ^ n % 2) 1) (2 ^ n) 0 ≡ x / 2 ^ n * 2 ^ n = top-digit (x / 2 ^ n) (2 ^ n) one in
+    let rest : portSet n (λ p. eqb (bit p x) 1) ≡ low
+    = set-ext n (λ p. eqb (bit p x) 1) (λ p. eqb (bit p low) 1) (λ p l. ap (λ (b : ℕ). eqb b 1) (sym (bit-low x n p l))) ∙ set-of-bits n low below in
+    ap₂ (λ (a b : ℕ). a + b) rest top ∙ whole
+
+-- A port that is not in a set is put in by adding its bit; one that is there changes nothing.
+pub set-put : (n : ℕ) (f : ℕ → Bool) (q : ℕ) → q < n → f q ≡ false → portSet n f + 2 ^ q ≡ portSet n (λ p. f p || eqb q p)
+unfolding portSet
+set-put zero f q l e = absurd (not-suc-le-zero l)
+set-put (suc n) f q l e =
+    ⊎-elim
+    (λ s.
+    let here = ap f (sym s) ∙ e in
+    let same = set-ext n f (λ p. f p || eqb q p) (λ p k. sym (ap (λ (t : Bool). f p || t) (ne-eqb q p (λ z. omega (arith, s, k, z))) ∙ or-false (f p))) in
+    ap (λ (k : ℕ). portSet n f + cond (f n) (2 ^ n) 0 + 2 ^ k) s
+    ∙ ap (λ (t : Bool). portSet n f + cond t (2 ^ n) 0 + 2 ^ n) here
+    ∙ ap₂ (λ (x : ℕ) (t : Bool). x + cond t (2 ^ n) 0) (add-zero (portSet n f) ∙ same) (sym (ap (λ (t : Bool). f n || t) (eq-eqb q n s) ∙ or-true (f n))))
+    (λ k.
+    let top : (f n || eqb q n) ≡ f n = ap (λ (t : Bool). f n || t) (ne-eqb q n (λ z. omega (arith, k, z))) ∙ or-false (f n) in
+    let swap : portSet n f + cond (f n) (2 ^ n) 0 + 2 ^ q ≡ portSet n f + 2 ^ q + cond (f n) (2 ^ n) 0 = omega arith in
+    swap ∙ ap₂ (λ (x : ℕ) (t : Bool). x + cond t (2 ^ n) 0) (set-put n f q k e) (sym top))
+    (eq-or-lt-of-le (le-of-suc-le-suc l))
+
+pub set-had : (n : ℕ) (f : ℕ → Bool) (q : ℕ) → f q ≡ true → portSet n f ≡ portSet n (λ p. f p || eqb q p)
+set-had n f q e = set-ext n f (λ p. f p || eqb q p) (λ p _. go p (eqb q p) refl)
+  where
+    go : (p : ℕ) (t : Bool) → eqb q p ≡ t → f p ≡ (f p || t)
+    go p true s = let here = ap f (sym (eqb-true q p s)) ∙ e in here ∙ sym (ap (λ (t : Bool). t || true) here)
+    go p false s = sym (or-false (f p))

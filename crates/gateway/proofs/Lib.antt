@@ -1,0 +1,10 @@
+mod Below
+mod Bits
+mod Held
+mod InBounds
+mod Limits
+mod Marks
+mod Places
+mod Sends
+mod Stepping
+mod Wanting

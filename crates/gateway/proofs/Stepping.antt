@@ -1,0 +1,43 @@
+-- A step by its tests: out of bounds, a port that is not there, then what the bytes read as.
+use Prim.Native.Nat.{ℕ, zero, suc, _≤_, _<_}
+use mathlib.Core.Path.{_≡_, refl}
+use mathlib.Core.Bool.{true, false}
+use mathlib.Core.List.{List}
+use borrow.Author.Tests.{le-leb, lt-leb}
+use lib.Dec.{leb}
+use Rattle.message.specs.declared.Message.{Message}
+use Rattle.message.specs.declared.Reading.{Reading}
+use Rattle.message.specs.declared.Reading.the-variants.{Read, Refused}
+use Rattle.message.specs.Reading.{messageIn, readTests, readOf}
+use Rattle.message.specs.Refusals.{firstOf, answered}
+use Rattle.gateway_rules.specs.declared.Gateway.{Gateway}
+use Rattle.gateway_rules.specs.State.{Gate, gateOf, outOfBounds}
+use Rattle.gateway_rules.specs.Step.{Outcome, taking, refusing, step}
+
+abbrev pub reading : Gate → ℕ → Reading → Outcome
+reading g q (Read m) = taking g q m
+reading g q (Refused n) = refusing g n
+
+by-number : (g : Gate) (q n : ℕ) (m : Message) → answered (taking g q) (refusing g) n m ≡ reading g q (answered Read Refused n m)
+by-number g q zero m = refl
+by-number g q (suc n) m = refl
+
+pub step-at-7 : (g : Gate) (q : ℕ) (bytes : List ℕ) → outOfBounds g ≡ true → step g q bytes ≡ refusing g 7
+unfolding step
+step-at-7 g q bytes o = rw o
+
+pub step-at-8 : (g : Gate) (q : ℕ) (bytes : List ℕ) → outOfBounds g ≡ false → leb (g .ports) q ≡ true → step g q bytes ≡ refusing g 8
+unfolding step
+step-at-8 g q bytes o p = rw (o, p)
+
+pub step-reads : (g : Gate) (q : ℕ) (bytes : List ℕ) → outOfBounds g ≡ false → leb (g .ports) q ≡ false → step g q bytes ≡ reading g q (readOf bytes)
+unfolding step readOf
+step-reads g q bytes o p = rw (o, p) (by-number g q (firstOf (readTests bytes)) (messageIn bytes))
+
+pub ports-reached : (g : Gateway) (q : ℕ) → g .ports ≤ q → leb (gateOf g .ports) q ≡ true
+unfolding gateOf
+ports-reached g q l = le-leb (g .ports) q l
+
+pub ports-missed : (g : Gateway) (q : ℕ) → q < g .ports → leb (gateOf g .ports) q ≡ false
+unfolding gateOf
+ports-missed g q l = lt-leb (g .ports) q l

@@ -1,0 +1,64 @@
+-- No mark from port p on is astray.
+use Prim.Native.Nat.{ℕ, _-_, _≤_}
+use mathlib.Core.Path.{_≡_, refl, sym, ap, _∙_}
+use mathlib.Core.Bool.{Bool, _&&_}
+use mathlib.Core.List.{[]}
+use native.Mathlib.Omega.{arith}
+use lib.Dec.{eqb, leb}
+use borrow.Author.Tests.{eq-eqb, ne-eqb, le-leb, lt-leb}
+use Rattle.gateway.proofs.Below.{top-fails, top-passes}
+use Rattle.gateway_rules.specs.State.{anyBelow}
+use Rattle.range.specs.Range.{bit}
+use Rattle.gateway.proofs.bounds.stray_mark.Statement.{statement}
+use Rattle.gateway.proofs.bounds.stray_mark.Tie as tie
+
+-- No mark from port p on is astray.
+
+abbrev Inv-loop : tie.InvT-loop
+Inv-loop marks ports p₀ p = (p ≤ 8) × (anyBelow 8 (λ q. leb ports q && eqb (bit q marks) 1) ≡ anyBelow p (λ q. leb ports q && eqb (bit q marks) 1))
+
+abbrev μ-loop : tie.MeasureT-loop
+μ-loop marks ports p₀ p = p
+
+loop-holds : tie.Need-loop-holds Inv-loop μ-loop
+loop-holds c = (omega arith, refl)
+
+sub-p : tie.Need-sub-p Inv-loop μ-loop
+sub-p c = omega arith
+
+loop-less : tie.Need-loop-less Inv-loop μ-loop
+loop-less c = omega arith
+
+loop-again : tie.Need-loop-again Inv-loop μ-loop
+loop-again c = (omega arith, c .before .before .loop .inv .1 ∙ top-fails (λ q. leb (c .before .before .before .args .ports) q && eqb (bit q (c .before .before .before .args .marks)) 1) (c .before .before .loop .p) (omega arith) (ap (λ (t : Bool). t && eqb (bit (c .before .before .loop .p - 1) (c .before .before .before .args .marks)) 1) (lt-leb (c .before .before .before .args .ports) (c .before .before .loop .p - 1) (c .if1 .taken))))
+
+shr-if2 : tie.Need-shr-if2 Inv-loop μ-loop
+shr-if2 c = omega arith
+
+returns : tie.Need-returns Inv-loop μ-loop
+returns c = sym (c .before .before .before .loop .inv .1 ∙ top-passes (λ q. leb (c .before .before .before .before .args .ports) q && eqb (bit q (c .before .before .before .before .args .marks)) 1) (c .before .before .before .loop .p) (omega arith) (rw (le-leb (c .before .before .before .before .args .ports) (c .before .before .before .loop .p - 1) (c .before .if1 .left)) (eq-eqb (bit (c .before .before .before .loop .p - 1) (c .before .before .before .before .args .marks)) 1 (c .if2 .taken))))
+
+loop-less-2 : tie.Need-loop-less-2 Inv-loop μ-loop
+loop-less-2 c = omega arith
+
+loop-again-2 : tie.Need-loop-again-2 Inv-loop μ-loop
+loop-again-2 c = (omega arith, c .before .before .before .loop .inv .1 ∙ top-fails (λ q. leb (c .before .before .before .before .args .ports) q && eqb (bit q (c .before .before .before .before .args .marks)) 1) (c .before .before .before .loop .p) (omega arith) (rw (le-leb (c .before .before .before .before .args .ports) (c .before .before .before .loop .p - 1) (c .before .if1 .left)) (ne-eqb (bit (c .before .before .before .loop .p - 1) (c .before .before .before .before .args .marks)) 1 (c .if2 .left))))
+
+returns-2 : tie.Need-returns-2 Inv-loop μ-loop
+returns-2 c = let none : c .before .loop .p ≡ 0 = omega arith in sym (c .before .loop .inv .1 ∙ ap (λ (k : ℕ). anyBelow k (λ q. leb (c .before .before .args .ports) q && eqb (bit q (c .before .before .args .marks)) 1)) none)
+
+pub stray-mark-spec : {M : Type 1} → statement M
+stray-mark-spec =
+    tie.close
+    (tie.spec
+    Inv-loop
+    μ-loop
+    loop-holds
+    sub-p
+    loop-less
+    loop-again
+    shr-if2
+    returns
+    loop-less-2
+    loop-again-2
+    returns-2)

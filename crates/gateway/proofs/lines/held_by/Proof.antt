@@ -1,0 +1,48 @@
+-- Its own port is put in where the block holds the event.
+use mathlib.Core.Path.{_∙_}
+use mathlib.Core.List.{[]}
+use native.Mathlib.Omega.{arith}
+use borrow.Author.Needs.{needs}
+use Rattle.range.specs.declared.Answer.the-variants.{Yes, No, NoBlock}
+use Rattle.gateway.proofs.Held.{port-below, line-says, held, not-held}
+use Rattle.gateway.proofs.lines.held_by.Statement.{statement}
+use Rattle.gateway.proofs.lines.held_by.Tie as tie
+
+-- Its own port is put in where the block holds the event.
+
+holds-requires : tie.Need-holds-requires
+holds-requires c κs = search needs
+
+enum-told : tie.Need-enum-told
+enum-told c = search needs
+
+with-port-requires : tie.Need-with-port-requires
+with-port-requires c κs = port-below (c .before .before .before .before .args .l) (c .before .before .before .before .pre)
+
+enum-told-2 : tie.Need-enum-told-2
+enum-told-2 c = search needs
+
+enum-told-3 : tie.Need-enum-told-3
+enum-told-3 c = search needs
+
+returns : tie.Need-returns
+returns c = c .with-port .ensures ∙ held (c .before .before .before .before .before .args .set) (c .before .before .before .before .before .args .e) (c .before .before .before .before .before .args .l) (line-says (c .before .before .before .before .before .args .l) (c .before .before .before .before .before .args .e) (c .before .before .before .holds .result) Yes (c .before .before .before .before .before .pre) (c .before .before .before .holds .ensures) (c .before .enum-told .given .1))
+
+returns-2 : tie.Need-returns-2
+returns-2 c = not-held (c .before .before .before .before .args .set) (c .before .before .before .before .args .e) (c .before .before .before .before .args .l) (omega arith) (line-says (c .before .before .before .before .args .l) (c .before .before .before .before .args .e) (c .before .before .holds .result) No (c .before .before .before .before .pre) (c .before .before .holds .ensures) (c .enum-told2 .given .1))
+
+returns-3 : tie.Need-returns-3
+returns-3 c = not-held (c .before .before .before .before .args .set) (c .before .before .before .before .args .e) (c .before .before .before .before .args .l) (omega arith) (line-says (c .before .before .before .before .args .l) (c .before .before .before .before .args .e) (c .before .before .holds .result) NoBlock (c .before .before .before .before .pre) (c .before .before .holds .ensures) (c .enum-told3 .given .1))
+
+pub held-by-spec : {M : Type 1} → statement M
+held-by-spec =
+    tie.close
+    (tie.spec
+    holds-requires
+    enum-told
+    with-port-requires
+    enum-told-2
+    enum-told-3
+    returns
+    returns-2
+    returns-3)

@@ -1,0 +1,60 @@
+-- The ports below p are settled.
+use Prim.Native.Nat.{ℕ, _-_, _≤_}
+use mathlib.Core.Path.{_≡_, refl, ap, _∙_}
+use mathlib.Core.Bool.{not, _&&_}
+use mathlib.Core.List.{[]}
+use native.Mathlib.Omega.{arith}
+use borrow.Author.Needs.{needs}
+use lib.Dec.{eqb, ltb}
+use Rattle.gateway.proofs.Bits.{next-port}
+use Rattle.gateway_rules.specs.Step.{portSet}
+use Rattle.gateway_rules.proofs.PortSets.{set-below}
+use Rattle.gateway.specs.Answers.{inSet}
+use Rattle.gateway.proofs.ports.others.Statement.{statement}
+use Rattle.gateway.proofs.ports.others.Tie as tie
+
+-- The ports below p are settled.
+
+-- The ports below p are settled.
+
+abbrev Inv-loop : tie.InvT-loop
+Inv-loop set ports port sent₀ p₀ sent p = (p ≤ 8) × (sent ≡ portSet p (λ q. ltb q ports && (not (eqb q port) && inSet set q)))
+
+abbrev μ-loop : tie.MeasureT-loop
+μ-loop set ports port sent₀ p₀ sent p = 8 - p
+
+loop-holds : tie.Need-loop-holds Inv-loop μ-loop
+unfolding portSet
+loop-holds c = (omega arith, refl)
+
+goes-requires : tie.Need-goes-requires Inv-loop μ-loop
+goes-requires c κs = search needs
+
+put-requires : tie.Need-put-requires Inv-loop μ-loop
+put-requires c κs = (omega arith, omega (arith, c .before .before .loop .inv .1, set-below (c .before .before .loop .p) (λ q. ltb q (c .before .before .before .args .ports) && (not (eqb q (c .before .before .before .args .port)) && inSet (c .before .before .before .args .set) q))))
+
+add-p : tie.Need-add-p Inv-loop μ-loop
+add-p c = omega arith
+
+loop-less : tie.Need-loop-less Inv-loop μ-loop
+loop-less c = omega arith
+
+loop-again : tie.Need-loop-again Inv-loop μ-loop
+loop-again c = (omega arith, c .put .ensures ∙ next-port (λ q. ltb q (c .before .before .before .before .args .ports) && (not (eqb q (c .before .before .before .before .args .port)) && inSet (c .before .before .before .before .args .set) q)) (c .before .before .before .loop .p) (c .before .before .before .loop .sent) (c .before .goes .result) (c .before .before .before .loop .inv .1) (c .before .goes .ensures))
+
+returns : tie.Need-returns Inv-loop μ-loop
+returns c = let all : c .before .loop .p ≡ 8 = omega arith in c .before .loop .inv .1 ∙ ap (λ (k : ℕ). portSet k (λ q. ltb q (c .before .before .args .ports) && (not (eqb q (c .before .before .args .port)) && inSet (c .before .before .args .set) q))) all
+
+pub others-spec : {M : Type 1} → statement M
+others-spec =
+    tie.close
+    (tie.spec
+    Inv-loop
+    μ-loop
+    loop-holds
+    goes-requires
+    put-requires
+    add-p
+    loop-less
+    loop-again
+    returns)

@@ -1,0 +1,29 @@
+-- Adding the bit is at most doubling.
+use Prim.Native.Nat.{ℕ, _+_}
+use mathlib.Core.Path.{sym, ap}
+use mathlib.Core.List.{[]}
+use native.Mathlib.Omega.{arith}
+use borrow.Author.Needs.{needs}
+use native.Mathlib.Nat.{add-zero}
+use Rattle.gateway.proofs.Bits.{one-bit, bit-fits}
+use Rattle.gateway.proofs.ports.put.Statement.{statement}
+use Rattle.gateway.proofs.ports.put.Tie as tie
+
+-- Adding the bit is at most doubling.
+
+-- Adding the bit is at most doubling.
+
+shl-result : tie.Need-shl-result
+shl-result c = search needs
+
+add-result : tie.Need-add-result
+add-result c = let a = c .before .args in let bit = one-bit (a .p) (omega arith) in omega (arith, bit, bit-fits (a .set) (a .p) (omega arith) (omega arith))
+
+returns : tie.Need-returns
+returns c = rw (c .if1 .taken) (ap (λ (x : ℕ). c .before .args .set + x) (one-bit (c .before .args .p) (omega arith)))
+
+returns-2 : tie.Need-returns-2
+returns-2 c = rw (c .if1 .left) (sym (add-zero (c .before .args .set)))
+
+pub put-spec : {M : Type 1} → statement M
+put-spec = tie.close (tie.spec shl-result add-result returns returns-2)

@@ -1,0 +1,34 @@
+-- A port that is there already changes nothing; another is put in by its bit.
+use Prim.Native.Nat.{ℕ, _+_, _^_}
+use mathlib.Core.Path.{_≡_, ap, _∙_}
+use mathlib.Core.Bool.{_||_}
+use mathlib.Core.List.{[]}
+use native.Mathlib.Omega.{arith}
+use borrow.Author.Needs.{needs}
+use lib.Dec.{eqb}
+use borrow.Author.Tests.{eq-eqb, ne-eqb}
+use Rattle.range.specs.Range.{bit}
+use Rattle.gateway_rules.specs.Step.{portSet}
+use Rattle.gateway_rules.proofs.PortSets.{set-below}
+use Rattle.gateway.specs.Answers.{inSet}
+use Rattle.gateway.proofs.Bits.{one-bit, in-put, in-had}
+use Rattle.gateway.proofs.ports.with_port.Statement.{statement}
+use Rattle.gateway.proofs.ports.with_port.Tie as tie
+
+shr-if1 : tie.Need-shr-if1
+shr-if1 c = search needs
+
+shl-result : tie.Need-shl-result
+shl-result c = search needs
+
+add-result : tie.Need-add-result
+add-result c = let sum : c .before .args .set + 2 ^ c .before .args .port ≡ portSet 8 (λ p. inSet (c .before .args .set) p || eqb (c .before .args .port) p) = in-put (c .before .args .set) (c .before .args .port) (omega arith) (omega arith) (ne-eqb (bit (c .before .args .port) (c .before .args .set)) 1 (c .if1 .left)) in omega (arith, sum, one-bit (c .before .args .port) (omega arith), set-below 8 (λ p. inSet (c .before .args .set) p || eqb (c .before .args .port) p))
+
+returns : tie.Need-returns
+returns c = in-had (c .before .args .set) (c .before .args .port) (omega arith) (eq-eqb (bit (c .before .args .port) (c .before .args .set)) 1 (c .if1 .taken))
+
+returns-2 : tie.Need-returns-2
+returns-2 c = ap (λ (x : ℕ). c .before .args .set + x) (one-bit (c .before .args .port) (omega arith)) ∙ in-put (c .before .args .set) (c .before .args .port) (omega arith) (omega arith) (ne-eqb (bit (c .before .args .port) (c .before .args .set)) 1 (c .if1 .left))
+
+pub with-port-spec : {M : Type 1} → statement M
+with-port-spec = tie.close (tie.spec shr-if1 shl-result add-result returns returns-2)

@@ -1,0 +1,65 @@
+// What is printed of a step.
+use gateway::Answer;
+use gateway_rules::Gateway;
+use libc::STDOUT_FILENO;
+
+pub(crate) fn heading(title: &[u8]) {
+    text(title);
+    text(b"\n");
+}
+
+// The label, a digit a port or the refusal, and the next state, which comes back.
+pub(crate) fn told(label: &[u8], a: Answer) -> Gateway {
+    let g = a.gateway;
+    text(label);
+    text(b": ");
+    if a.refusal == 0 {
+        digits(a.sent, g.ports);
+    } else {
+        text(b"refused ");
+        decimal(a.refusal as u64);
+    }
+    state(g);
+    g
+}
+
+// Of a run of steps that are not printed, only what they left.
+pub(crate) fn left(label: &[u8], g: Gateway) {
+    text(label);
+    text(b": done");
+    state(g);
+}
+
+fn state(g: Gateway) {
+    let table = g.table;
+    text(b", ");
+    decimal(table.count as u64);
+    text(b" lines, marks ");
+    io::print_hex(STDOUT_FILENO, g.marks as u64, 1);
+    text(b"\n");
+}
+
+fn digits(sent: u8, ports: u8) {
+    digit(sent, ports, 0);
+    digit(sent, ports, 1);
+    digit(sent, ports, 2);
+    digit(sent, ports, 3);
+    digit(sent, ports, 4);
+    digit(sent, ports, 5);
+    digit(sent, ports, 6);
+    digit(sent, ports, 7);
+}
+
+fn digit(sent: u8, ports: u8, p: u8) {
+    if p < ports {
+        decimal(((sent >> (p % 8)) % 2) as u64);
+    }
+}
+
+fn decimal(n: u64) {
+    io::print_decimal(STDOUT_FILENO, n);
+}
+
+fn text(t: &[u8]) {
+    io::write_all(STDOUT_FILENO, t);
+}
