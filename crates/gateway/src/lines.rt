@@ -96,10 +96,10 @@ pub(crate) fn holding(table: Table, e: u64, set: u8) -> u8
 {
     let count = table.count;
     let mut wanted = set;
-    let mut i = 0;
-    while i < count {
-        let l = table.lines[i];
-        i += 1;
+    let mut place = 0;
+    while place < count {
+        let l = table.lines[place];
+        place += 1;
         wanted = held_by(wanted, l, e);
     }
     wanted

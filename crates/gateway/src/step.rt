@@ -119,6 +119,7 @@ fn announce(gateway: Gateway, l: Line) -> Gateway
 {
     let table = gateway.table;
     let automatic = gateway.automatic;
+    let marks = gateway.marks;
     if lines::has(table, l) {
         return gateway;
     }
@@ -126,14 +127,14 @@ fn announce(gateway: Gateway, l: Line) -> Gateway
         return Gateway {
             ports: gateway.ports,
             automatic,
-            marks: gateway.marks,
+            marks,
             table: lines::with_line(table, l),
         };
     }
     Gateway {
         ports: gateway.ports,
         automatic,
-        marks: ports::with_port(gateway.marks, l.port),
+        marks: ports::with_port(marks, l.port),
         table,
     }
 }

@@ -1,4 +1,4 @@
--- The lines before place i have had their say.
+-- The lines before the place have had their say.
 use Prim.Native.Nat.{ℕ, _-_, _≤_}
 use mathlib.Core.Path.{_≡_, ap, _∙_}
 use mathlib.Core.Bool.{_||_}
@@ -12,13 +12,13 @@ use Rattle.gateway.proofs.Places.{none-at}
 use Rattle.gateway.proofs.lines.holding.Statement.{statement}
 use Rattle.gateway.proofs.lines.holding.Tie as tie
 
--- The lines before place i have had their say.
+-- The lines before the place have had their say.
 
 abbrev Inv-loop : tie.InvT-loop
-Inv-loop e set table count wanted₀ i₀ wanted i = (i ≤ table .count) × (wanted ≡ portSet 8 (λ p. inSet set p || any (lineHolds p e) (firstPlaces i (table .lines))))
+Inv-loop e set table count wanted₀ place₀ wanted place = (place ≤ table .count) × (wanted ≡ portSet 8 (λ p. inSet set p || any (lineHolds p e) (firstPlaces place (table .lines))))
 
 abbrev μ-loop : tie.MeasureT-loop
-μ-loop e set table count wanted₀ i₀ wanted i = table .count - i
+μ-loop e set table count wanted₀ place₀ wanted place = table .count - place
 
 loop-holds : tie.Need-loop-holds Inv-loop μ-loop
 loop-holds c = (omega arith, none-yet (c .args .set) (c .args .e) (c .args .t1 .lines) (omega arith))
@@ -29,20 +29,20 @@ mul-l c = omega arith
 element-copy-out-l : tie.Need-element-copy-out-l Inv-loop μ-loop
 element-copy-out-l c = omega arith
 
-add-i : tie.Need-add-i Inv-loop μ-loop
-add-i c = omega arith
+add-place : tie.Need-add-place Inv-loop μ-loop
+add-place c = omega arith
 
 held-by-requires : tie.Need-held-by-requires Inv-loop μ-loop
-held-by-requires c κs = none-at (badAt 8) (c .before .before .before .args .t1 .count) (c .before .before .before .args .t1 .lines) (c .before .before .loop .i) (c .before .before .before .pre .1) (omega arith)
+held-by-requires c κs = none-at (badAt 8) (c .before .before .before .args .t1 .count) (c .before .before .before .args .t1 .lines) (c .before .before .loop .place) (c .before .before .before .pre .1) (omega arith)
 
 loop-less : tie.Need-loop-less Inv-loop μ-loop
 loop-less c = omega arith
 
 loop-again : tie.Need-loop-again Inv-loop μ-loop
-loop-again c = (omega arith, c .held-by .ensures ∙ one-line-more (c .before .before .before .before .args .set) (c .before .before .before .before .args .e) (c .before .before .before .loop .i) (c .before .before .before .loop .wanted) (c .before .before .before .before .args .t1 .lines) (c .before .before .before .loop .inv .1))
+loop-again c = (omega arith, c .held-by .ensures ∙ one-line-more (c .before .before .before .before .args .set) (c .before .before .before .before .args .e) (c .before .before .before .loop .place) (c .before .before .before .loop .wanted) (c .before .before .before .before .args .t1 .lines) (c .before .before .before .loop .inv .1))
 
 returns : tie.Need-returns Inv-loop μ-loop
-returns c = let all : c .before .loop .i ≡ c .before .before .args .t1 .count = omega arith in c .before .loop .inv .1 ∙ ap (λ (k : ℕ). portSet 8 (λ p. inSet (c .before .before .args .set) p || any (lineHolds p (c .before .before .args .e)) (firstPlaces k (c .before .before .args .t1 .lines)))) all
+returns c = let all : c .before .loop .place ≡ c .before .before .args .t1 .count = omega arith in c .before .loop .inv .1 ∙ ap (λ (k : ℕ). portSet 8 (λ p. inSet (c .before .before .args .set) p || any (lineHolds p (c .before .before .args .e)) (firstPlaces k (c .before .before .args .t1 .lines)))) all
 
 pub holding-spec : {M : Type 1} → statement M
 holding-spec =
@@ -53,7 +53,7 @@ holding-spec =
     loop-holds
     mul-l
     element-copy-out-l
-    add-i
+    add-place
     held-by-requires
     loop-less
     loop-again
