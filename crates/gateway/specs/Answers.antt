@@ -1,5 +1,6 @@
 -- What the code's answer says: the refusal, the set of ports as a number, and the state without the places past the count.
 use Prim.Native.Nat.{ℕ}
+use mathlib.Core.Path.{_≡_}
 use mathlib.Core.Bool.{Bool, not, _||_}
 use mathlib.Core.List.{List}
 use lib.Dec.{eqb, leb}
@@ -10,6 +11,7 @@ use Rattle.message.specs.declared.Reading.{Reading}
 use Rattle.message.specs.declared.Reading.the-variants.{Read, Refused}
 use Rattle.message.specs.Messages.{badNode}
 use Rattle.gateway_rules.specs.declared.Line.{Line}
+use Rattle.gateway_rules.specs.declared.Gateway.{Gateway}
 use Rattle.gateway_rules.specs.declared.Table.{Table}
 use Rattle.gateway_rules.specs.State.{Gate, firstPlaces, gateOf}
 use Rattle.gateway_rules.specs.Step.{Outcome, portSet}
@@ -26,6 +28,10 @@ seenIn a = record { refusal = a .refusal; sent = a .sent; gate = gateOf (a .gate
 -- The same of what the rules give.
 abbrev pub seenOf : Outcome → Seen
 seenOf o = record { refusal = o .refusal; sent = portSet 8 (o .to); gate = o .next }
+
+-- A refusal leaves the whole state as it was, the places past the count too (document 01, "Refusal numbers": state and slots stay as before).
+abbrev pub refusalKeeps : Gateway → Answer → Type 0
+refusalKeeps g a = (a .refusal ≡ 0 → ⊥) → a .gateway ≡ g
 
 -- ---- what the parts of the code work on
 

@@ -7,7 +7,7 @@ mod step;
 ghost use mathlib.Core.Path.{_≡_};
 ghost use Rattle.gateway_rules.specs.State.{gateOf, startOf};
 ghost use Rattle.gateway_rules.specs.Step.{start as startedBy, step as stepOf, refusing};
-ghost use Rattle.gateway.specs.Answers.{seenIn, seenOf, numberOf};
+ghost use Rattle.gateway.specs.Answers.{seenIn, seenOf, numberOf, refusalKeeps};
 use gateway_rules::Gateway;
 use gateway_rules::Line;
 use gateway_rules::Table;
@@ -34,6 +34,7 @@ pub fn start(ports: u8, r: u64) -> Answer
 // A message at a port.
 pub fn receive(gateway: Gateway, port: u8, bytes: &[u8]) -> Answer
     ensures { λ a. ⌜ seenIn a ≡ seenOf (stepOf (gateOf gateway) port (now (bytes .entry))) ⌝ }
+    ensures { λ a. ⌜ refusalKeeps gateway a ⌝ }
 {
     if bounds::out_of_bounds(gateway) {
         return refused(gateway, 7);
