@@ -1,6 +1,6 @@
 -- A step by its tests: out of bounds, a port that is not there, then what the bytes read as.
 use Prim.Native.Nat.{ℕ, zero, suc, _≤_, _<_}
-use mathlib.Core.Path.{_≡_, refl}
+use mathlib.Core.Path.{_≡_, refl, sym, ap, _∙_}
 use mathlib.Core.Bool.{true, false}
 use mathlib.Core.List.{List}
 use borrow.Author.Tests.{le-leb, lt-leb}
@@ -13,8 +13,9 @@ use Rattle.message.specs.Refusals.{firstOf, answered}
 use Rattle.gateway_rules.specs.declared.Gateway.{Gateway}
 use Rattle.gateway_rules.specs.State.{Gate, gateOf, outOfBounds}
 use Rattle.gateway_rules.specs.Step.{Outcome, taking, refusing, step}
+use Rattle.gateway.specs.Answers.{seenOf}
 
-abbrev pub reading : Gate → ℕ → Reading → Outcome
+abbrev reading : Gate → ℕ → Reading → Outcome
 reading g q (Read m) = taking g q m
 reading g q (Refused n) = refusing g n
 
@@ -30,7 +31,7 @@ pub step-at-8 : (g : Gate) (q : ℕ) (bytes : List ℕ) → outOfBounds g ≡ fa
 unfolding step
 step-at-8 g q bytes o p = rw (o, p)
 
-pub step-reads : (g : Gate) (q : ℕ) (bytes : List ℕ) → outOfBounds g ≡ false → leb (g .ports) q ≡ false → step g q bytes ≡ reading g q (readOf bytes)
+step-reads : (g : Gate) (q : ℕ) (bytes : List ℕ) → outOfBounds g ≡ false → leb (g .ports) q ≡ false → step g q bytes ≡ reading g q (readOf bytes)
 unfolding step readOf
 step-reads g q bytes o p = rw (o, p) (by-number g q (firstOf (readTests bytes)) (messageIn bytes))
 
@@ -38,6 +39,11 @@ pub ports-reached : (g : Gateway) (q : ℕ) → g .ports ≤ q → leb (gateOf g
 unfolding gateOf
 ports-reached g q l = le-leb (g .ports) q l
 
-pub ports-missed : (g : Gateway) (q : ℕ) → q < g .ports → leb (gateOf g .ports) q ≡ false
+ports-missed : (g : Gateway) (q : ℕ) → q < g .ports → leb (gateOf g .ports) q ≡ false
 unfolding gateOf
 ports-missed g q l = lt-leb (g .ports) q l
+
+-- What the step gives once the bytes are known to read as r.
+pub step-at-reading : (g : Gateway) (q : ℕ) (bytes : List ℕ) (r : Reading) → outOfBounds (gateOf g) ≡ false → q < g .ports → readOf bytes ≡ r
+    → seenOf (reading (gateOf g) q r) ≡ seenOf (step (gateOf g) q bytes)
+step-at-reading g q bytes r o l e = sym (ap seenOf (step-reads (gateOf g) q bytes o (ports-missed g q l) ∙ ap (reading (gateOf g) q) e))

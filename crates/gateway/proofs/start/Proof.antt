@@ -28,7 +28,9 @@ refused-requires : tie.Need-refused-requires
 refused-requires c κs = search needs
 
 returns : tie.Need-returns
-returns c = c .refused .ensures .0 ∙ ap (λ (g : Gate). seenOf (refusing g 8)) (c .before .empty .ensures) ∙ by-count (c .before .before .before .before .args .ports) (c .before .before .before .before .args .r) true (sym (c .before .before .before .bad-ports .ensures) ∙ c .before .before .if1 .taken)
+returns c =
+    let a = c .before .before .before .before .args in
+    c .refused .ensures .0 ∙ ap (λ (g : Gate). seenOf (refusing g 8)) (c .before .empty .ensures) ∙ by-count (a .ports) (a .r) true (sym (c .before .before .before .bad-ports .ensures) ∙ c .before .before .if1 .taken)
 
 empty-requires-2 : tie.Need-empty-requires-2
 empty-requires-2 c κs = search needs
@@ -37,7 +39,9 @@ refused-requires-2 : tie.Need-refused-requires-2
 refused-requires-2 c κs = search needs
 
 returns-2 : tie.Need-returns-2
-returns-2 c = c .refused2 .ensures .0 ∙ ap (λ (g : Gate). seenOf (refusing g 0)) (c .before .empty2 .ensures) ∙ by-count (c .before .before .before .before .args .ports) (c .before .before .before .before .args .r) false (sym (c .before .before .before .bad-ports .ensures) ∙ c .before .before .if1 .left)
+returns-2 c =
+    let a = c .before .before .before .before .args in
+    c .refused2 .ensures .0 ∙ ap (λ (g : Gate). seenOf (refusing g 0)) (c .before .empty2 .ensures) ∙ by-count (a .ports) (a .r) false (sym (c .before .before .before .bad-ports .ensures) ∙ c .before .before .if1 .left)
 
 pub start-spec : {M : Type 1} → statement M
 start-spec =

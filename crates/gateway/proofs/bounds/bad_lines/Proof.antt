@@ -36,16 +36,24 @@ bad-line-requires : tie.Need-bad-line-requires Inv-loop μ-loop
 bad-line-requires c κs = search needs
 
 returns : tie.Need-returns Inv-loop μ-loop
-returns c = sym (any-at (badAt (c .before .before .before .before .before .args .ports)) (c .before .before .before .before .before .args .t1 .count) (c .before .before .before .before .before .args .t1 .lines) (c .before .before .before .before .loop .i) (omega arith) (sym (c .before .bad-line .ensures) ∙ c .if1 .taken))
+returns c =
+    let a = c .before .before .before .before .before .args in
+    sym (any-at (badAt (a .ports)) (a .t1 .count) (a .t1 .lines) (c .before .before .before .before .loop .i) (omega arith) (sym (c .before .bad-line .ensures) ∙ c .if1 .taken))
 
 loop-less : tie.Need-loop-less Inv-loop μ-loop
 loop-less c = omega arith
 
 loop-again : tie.Need-loop-again Inv-loop μ-loop
-loop-again c = (omega arith, any-more (badAt (c .before .before .before .before .before .args .ports)) (c .before .before .before .before .loop .i) (c .before .before .before .before .before .args .t1 .lines) ∙ ap (λ (t : Bool). t || badAt (c .before .before .before .before .before .args .ports) (at (c .before .before .before .before .before .args .t1 .lines) (c .before .before .before .before .loop .i))) (c .before .before .before .before .loop .inv .1) ∙ sym (c .before .bad-line .ensures) ∙ c .if1 .left)
+loop-again c =
+    let a = c .before .before .before .before .before .args in
+    let l = c .before .before .before .before .loop in
+    (omega arith, any-more (badAt (a .ports)) (l .i) (a .t1 .lines) ∙ ap (λ (t : Bool). t || badAt (a .ports) (at (a .t1 .lines) (l .i))) (l .inv .1) ∙ sym (c .before .bad-line .ensures) ∙ c .if1 .left)
 
 returns-2 : tie.Need-returns-2 Inv-loop μ-loop
-returns-2 c = let all : c .before .loop .i ≡ c .before .before .args .t1 .count = omega arith in sym (c .before .loop .inv .1) ∙ ap (λ (k : ℕ). any (badAt (c .before .before .args .ports)) (firstPlaces k (c .before .before .args .t1 .lines))) all
+returns-2 c =
+    let a = c .before .before .args in
+    let l = c .before .loop in
+    let all : l .i ≡ a .t1 .count = omega arith in sym (l .inv .1) ∙ ap (λ (k : ℕ). any (badAt (a .ports)) (firstPlaces k (a .t1 .lines))) all
 
 pub bad-lines-spec : {M : Type 1} → statement M
 bad-lines-spec =

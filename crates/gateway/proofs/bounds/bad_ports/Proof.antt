@@ -21,7 +21,9 @@ returns : tie.Need-returns
 returns c = rw (lt-leb 2 (c .before .args .ports) (c .if1 .taken))
 
 returns-2 : tie.Need-returns-2
-returns-2 c = rw (le-leb 2 (c .before .args .ports) (c .if1 .left)) (turned 8 (c .before .args .ports))
+returns-2 c =
+    let a = c .before .args in
+    rw (le-leb 2 (a .ports) (c .if1 .left)) (turned 8 (a .ports))
 
 pub bad-ports-spec : {M : Type 1} → statement M
 bad-ports-spec = tie.close (tie.spec returns returns-2)

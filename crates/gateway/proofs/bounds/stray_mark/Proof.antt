@@ -30,22 +30,34 @@ loop-less : tie.Need-loop-less Inv-loop μ-loop
 loop-less c = omega arith
 
 loop-again : tie.Need-loop-again Inv-loop μ-loop
-loop-again c = (omega arith, c .before .before .loop .inv .1 ∙ top-fails (λ q. leb (c .before .before .before .args .ports) q && eqb (bit q (c .before .before .before .args .marks)) 1) (c .before .before .loop .p) (omega arith) (ap (λ (t : Bool). t && eqb (bit (c .before .before .loop .p - 1) (c .before .before .before .args .marks)) 1) (lt-leb (c .before .before .before .args .ports) (c .before .before .loop .p - 1) (c .if1 .taken))))
+loop-again c =
+    let a = c .before .before .before .args in
+    let l = c .before .before .loop in
+    (omega arith, l .inv .1 ∙ top-fails (λ q. leb (a .ports) q && eqb (bit q (a .marks)) 1) (l .p) (omega arith) (ap (λ (t : Bool). t && eqb (bit (l .p - 1) (a .marks)) 1) (lt-leb (a .ports) (l .p - 1) (c .if1 .taken))))
 
 shr-if2 : tie.Need-shr-if2 Inv-loop μ-loop
 shr-if2 c = omega arith
 
 returns : tie.Need-returns Inv-loop μ-loop
-returns c = sym (c .before .before .before .loop .inv .1 ∙ top-passes (λ q. leb (c .before .before .before .before .args .ports) q && eqb (bit q (c .before .before .before .before .args .marks)) 1) (c .before .before .before .loop .p) (omega arith) (rw (le-leb (c .before .before .before .before .args .ports) (c .before .before .before .loop .p - 1) (c .before .if1 .left)) (eq-eqb (bit (c .before .before .before .loop .p - 1) (c .before .before .before .before .args .marks)) 1 (c .if2 .taken))))
+returns c =
+    let a = c .before .before .before .before .args in
+    let l = c .before .before .before .loop in
+    sym (l .inv .1 ∙ top-passes (λ q. leb (a .ports) q && eqb (bit q (a .marks)) 1) (l .p) (omega arith) (rw (le-leb (a .ports) (l .p - 1) (c .before .if1 .left)) (eq-eqb (bit (l .p - 1) (a .marks)) 1 (c .if2 .taken))))
 
 loop-less-2 : tie.Need-loop-less-2 Inv-loop μ-loop
 loop-less-2 c = omega arith
 
 loop-again-2 : tie.Need-loop-again-2 Inv-loop μ-loop
-loop-again-2 c = (omega arith, c .before .before .before .loop .inv .1 ∙ top-fails (λ q. leb (c .before .before .before .before .args .ports) q && eqb (bit q (c .before .before .before .before .args .marks)) 1) (c .before .before .before .loop .p) (omega arith) (rw (le-leb (c .before .before .before .before .args .ports) (c .before .before .before .loop .p - 1) (c .before .if1 .left)) (ne-eqb (bit (c .before .before .before .loop .p - 1) (c .before .before .before .before .args .marks)) 1 (c .if2 .left))))
+loop-again-2 c =
+    let a = c .before .before .before .before .args in
+    let l = c .before .before .before .loop in
+    (omega arith, l .inv .1 ∙ top-fails (λ q. leb (a .ports) q && eqb (bit q (a .marks)) 1) (l .p) (omega arith) (rw (le-leb (a .ports) (l .p - 1) (c .before .if1 .left)) (ne-eqb (bit (l .p - 1) (a .marks)) 1 (c .if2 .left))))
 
 returns-2 : tie.Need-returns-2 Inv-loop μ-loop
-returns-2 c = let none : c .before .loop .p ≡ 0 = omega arith in sym (c .before .loop .inv .1 ∙ ap (λ (k : ℕ). anyBelow k (λ q. leb (c .before .before .args .ports) q && eqb (bit q (c .before .before .args .marks)) 1)) none)
+returns-2 c =
+    let a = c .before .before .args in
+    let l = c .before .loop in
+    let none : l .p ≡ 0 = omega arith in sym (l .inv .1 ∙ ap (λ (k : ℕ). anyBelow k (λ q. leb (a .ports) q && eqb (bit q (a .marks)) 1)) none)
 
 pub stray-mark-spec : {M : Type 1} → statement M
 stray-mark-spec =

@@ -26,13 +26,19 @@ enum-told-3 : tie.Need-enum-told-3
 enum-told-3 c = search needs
 
 returns : tie.Need-returns
-returns c = c .with-port .ensures ∙ held (c .before .before .before .before .before .args .set) (c .before .before .before .before .before .args .e) (c .before .before .before .before .before .args .l) (line-says (c .before .before .before .before .before .args .l) (c .before .before .before .before .before .args .e) (c .before .before .before .holds .result) Yes (c .before .before .before .before .before .pre) (c .before .before .before .holds .ensures) (c .before .enum-told .given .1))
+returns c =
+    let a = c .before .before .before .before .before .args in
+    c .with-port .ensures ∙ held (a .set) (a .e) (a .l) (line-says (a .l) (a .e) (c .before .before .before .holds .result) Yes (c .before .before .before .before .before .pre) (c .before .before .before .holds .ensures) (c .before .enum-told .given .1))
 
 returns-2 : tie.Need-returns-2
-returns-2 c = not-held (c .before .before .before .before .args .set) (c .before .before .before .before .args .e) (c .before .before .before .before .args .l) (omega arith) (line-says (c .before .before .before .before .args .l) (c .before .before .before .before .args .e) (c .before .before .holds .result) No (c .before .before .before .before .pre) (c .before .before .holds .ensures) (c .enum-told2 .given .1))
+returns-2 c =
+    let a = c .before .before .before .before .args in
+    not-held (a .set) (a .e) (a .l) (omega arith) (line-says (a .l) (a .e) (c .before .before .holds .result) No (c .before .before .before .before .pre) (c .before .before .holds .ensures) (c .enum-told2 .given .1))
 
 returns-3 : tie.Need-returns-3
-returns-3 c = not-held (c .before .before .before .before .args .set) (c .before .before .before .before .args .e) (c .before .before .before .before .args .l) (omega arith) (line-says (c .before .before .before .before .args .l) (c .before .before .before .before .args .e) (c .before .before .holds .result) NoBlock (c .before .before .before .before .pre) (c .before .before .holds .ensures) (c .enum-told3 .given .1))
+returns-3 c =
+    let a = c .before .before .before .before .args in
+    not-held (a .set) (a .e) (a .l) (omega arith) (line-says (a .l) (a .e) (c .before .before .holds .result) NoBlock (c .before .before .before .before .pre) (c .before .before .holds .ensures) (c .enum-told3 .given .1))
 
 pub held-by-spec : {M : Type 1} → statement M
 held-by-spec =

@@ -33,16 +33,24 @@ add-place : tie.Need-add-place Inv-loop μ-loop
 add-place c = omega arith
 
 held-by-requires : tie.Need-held-by-requires Inv-loop μ-loop
-held-by-requires c κs = none-at (badAt 8) (c .before .before .before .args .t1 .count) (c .before .before .before .args .t1 .lines) (c .before .before .loop .place) (c .before .before .before .pre .1) (omega arith)
+held-by-requires c κs =
+    let a = c .before .before .before .args in
+    none-at (badAt 8) (a .t1 .count) (a .t1 .lines) (c .before .before .loop .place) (c .before .before .before .pre .1) (omega arith)
 
 loop-less : tie.Need-loop-less Inv-loop μ-loop
 loop-less c = omega arith
 
 loop-again : tie.Need-loop-again Inv-loop μ-loop
-loop-again c = (omega arith, c .held-by .ensures ∙ one-line-more (c .before .before .before .before .args .set) (c .before .before .before .before .args .e) (c .before .before .before .loop .place) (c .before .before .before .loop .wanted) (c .before .before .before .before .args .t1 .lines) (c .before .before .before .loop .inv .1))
+loop-again c =
+    let a = c .before .before .before .before .args in
+    let l = c .before .before .before .loop in
+    (omega arith, c .held-by .ensures ∙ one-line-more (a .set) (a .e) (l .place) (l .wanted) (a .t1 .lines) (l .inv .1))
 
 returns : tie.Need-returns Inv-loop μ-loop
-returns c = let all : c .before .loop .place ≡ c .before .before .args .t1 .count = omega arith in c .before .loop .inv .1 ∙ ap (λ (k : ℕ). portSet 8 (λ p. inSet (c .before .before .args .set) p || any (lineHolds p (c .before .before .args .e)) (firstPlaces k (c .before .before .args .t1 .lines)))) all
+returns c =
+    let a = c .before .before .args in
+    let l = c .before .loop in
+    let all : l .place ≡ a .t1 .count = omega arith in l .inv .1 ∙ ap (λ (k : ℕ). portSet 8 (λ p. inSet (a .set) p || any (lineHolds p (a .e)) (firstPlaces k (a .t1 .lines)))) all
 
 pub holding-spec : {M : Type 1} → statement M
 holding-spec =

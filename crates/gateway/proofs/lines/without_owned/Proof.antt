@@ -37,7 +37,10 @@ loop-less : tie.Need-loop-less Inv-loop μ-loop
 loop-less c = omega arith
 
 loop-again : tie.Need-loop-again Inv-loop μ-loop
-loop-again c = (omega arith, omega arith, c .before .before .before .before .loop .inv .2, c .before .before .before .before .loop .inv .3 ∙ sym (left-out (ownedAt (c .before .before .before .before .before .args .port) (c .before .before .before .before .before .args .node)) (c .before .before .before .before .loop .i) (c .before .before .before .before .before .args .t1 .lines) (sym (c .before .owned .ensures) ∙ c .if1 .taken)))
+loop-again c =
+    let a = c .before .before .before .before .before .args in
+    let l = c .before .before .before .before .loop in
+    (omega arith, omega arith, l .inv .2, l .inv .3 ∙ sym (left-out (ownedAt (a .port) (a .node)) (l .i) (a .t1 .lines) (sym (c .before .owned .ensures) ∙ c .if1 .taken)))
 
 mul-l-2 : tie.Need-mul-l-2 Inv-loop μ-loop
 mul-l-2 c = omega arith
@@ -52,10 +55,19 @@ loop-less-2 : tie.Need-loop-less-2 Inv-loop μ-loop
 loop-less-2 c = omega arith
 
 loop-again-2 : tie.Need-loop-again-2 Inv-loop μ-loop
-loop-again-2 c = (omega arith, omega arith, simp length-set (c .before .before .before .before .loop .inv .2), put-last (c .before .before .before .before .loop .j) (c .before .before .before .before .loop .kept .lines) (at (c .before .before .before .before .before .args .t1 .lines) (c .before .before .before .before .loop .i)) (omega arith) ∙ ap (λ (xs : List Line). xs ++ (at (c .before .before .before .before .before .args .t1 .lines) (c .before .before .before .before .loop .i) ∷ [])) (c .before .before .before .before .loop .inv .3) ∙ sym (kept-on (ownedAt (c .before .before .before .before .before .args .port) (c .before .before .before .before .before .args .node)) (c .before .before .before .before .loop .i) (c .before .before .before .before .before .args .t1 .lines) (sym (c .before .owned .ensures) ∙ c .if1 .left)))
+loop-again-2 c =
+    let a = c .before .before .before .before .before .args in
+    let l = c .before .before .before .before .loop in
+    let line = at (a .t1 .lines) (l .i) in
+    let stays = kept-on (ownedAt (a .port) (a .node)) (l .i) (a .t1 .lines) (sym (c .before .owned .ensures) ∙ c .if1 .left) in
+    let written = put-last (l .j) (l .kept .lines) line (omega arith) in
+    (omega arith, omega arith, simp length-set (l .inv .2), written ∙ ap (λ (xs : List Line). xs ++ (line ∷ [])) (l .inv .3) ∙ sym stays)
 
 returns : tie.Need-returns Inv-loop μ-loop
-returns c = let all : c .before .loop .i ≡ c .before .before .args .t1 .count = omega arith in c .before .loop .inv .3 ∙ ap (λ (k : ℕ). without (ownedAt (c .before .before .args .port) (c .before .before .args .node)) (firstPlaces k (c .before .before .args .t1 .lines))) all
+returns c =
+    let a = c .before .before .args in
+    let l = c .before .loop in
+    let all : l .i ≡ a .t1 .count = omega arith in l .inv .3 ∙ ap (λ (k : ℕ). without (ownedAt (a .port) (a .node)) (firstPlaces k (a .t1 .lines))) all
 
 pub without-owned-spec : {M : Type 1} → statement M
 without-owned-spec =

@@ -31,7 +31,10 @@ goes-requires : tie.Need-goes-requires Inv-loop μ-loop
 goes-requires c κs = search needs
 
 put-requires : tie.Need-put-requires Inv-loop μ-loop
-put-requires c κs = (omega arith, omega (arith, c .before .before .loop .inv .1, set-below (c .before .before .loop .p) (λ q. ltb q (c .before .before .before .args .ports) && (not (eqb q (c .before .before .before .args .port)) && inSet (c .before .before .before .args .set) q))))
+put-requires c κs =
+    let a = c .before .before .before .args in
+    let l = c .before .before .loop in
+    (omega arith, omega (arith, l .inv .1, set-below (l .p) (λ q. ltb q (a .ports) && (not (eqb q (a .port)) && inSet (a .set) q))))
 
 add-p : tie.Need-add-p Inv-loop μ-loop
 add-p c = omega arith
@@ -40,10 +43,16 @@ loop-less : tie.Need-loop-less Inv-loop μ-loop
 loop-less c = omega arith
 
 loop-again : tie.Need-loop-again Inv-loop μ-loop
-loop-again c = (omega arith, c .put .ensures ∙ next-port (λ q. ltb q (c .before .before .before .before .args .ports) && (not (eqb q (c .before .before .before .before .args .port)) && inSet (c .before .before .before .before .args .set) q)) (c .before .before .before .loop .p) (c .before .before .before .loop .sent) (c .before .goes .result) (c .before .before .before .loop .inv .1) (c .before .goes .ensures))
+loop-again c =
+    let a = c .before .before .before .before .args in
+    let l = c .before .before .before .loop in
+    (omega arith, c .put .ensures ∙ next-port (λ q. ltb q (a .ports) && (not (eqb q (a .port)) && inSet (a .set) q)) (l .p) (l .sent) (c .before .goes .result) (l .inv .1) (c .before .goes .ensures))
 
 returns : tie.Need-returns Inv-loop μ-loop
-returns c = let all : c .before .loop .p ≡ 8 = omega arith in c .before .loop .inv .1 ∙ ap (λ (k : ℕ). portSet k (λ q. ltb q (c .before .before .args .ports) && (not (eqb q (c .before .before .args .port)) && inSet (c .before .before .args .set) q))) all
+returns c =
+    let a = c .before .before .args in
+    let l = c .before .loop in
+    let all : l .p ≡ 8 = omega arith in l .inv .1 ∙ ap (λ (k : ℕ). portSet k (λ q. ltb q (a .ports) && (not (eqb q (a .port)) && inSet (a .set) q))) all
 
 pub others-spec : {M : Type 1} → statement M
 others-spec =

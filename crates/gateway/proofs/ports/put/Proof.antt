@@ -20,7 +20,9 @@ add-result : tie.Need-add-result
 add-result c = let a = c .before .args in let bit = one-bit (a .p) (omega arith) in omega (arith, bit, bit-fits (a .set) (a .p) (omega arith) (omega arith))
 
 returns : tie.Need-returns
-returns c = rw (c .if1 .taken) (ap (λ (x : ℕ). c .before .args .set + x) (one-bit (c .before .args .p) (omega arith)))
+returns c =
+    let a = c .before .args in
+    rw (c .if1 .taken) (ap (λ (x : ℕ). a .set + x) (one-bit (a .p) (omega arith)))
 
 returns-2 : tie.Need-returns-2
 returns-2 c = rw (c .if1 .left) (sym (add-zero (c .before .args .set)))

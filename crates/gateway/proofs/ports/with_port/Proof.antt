@@ -22,13 +22,19 @@ shl-result : tie.Need-shl-result
 shl-result c = search needs
 
 add-result : tie.Need-add-result
-add-result c = let sum : c .before .args .set + 2 ^ c .before .args .port ≡ portSet 8 (λ p. inSet (c .before .args .set) p || eqb (c .before .args .port) p) = in-put (c .before .args .set) (c .before .args .port) (omega arith) (omega arith) (ne-eqb (bit (c .before .args .port) (c .before .args .set)) 1 (c .if1 .left)) in omega (arith, sum, one-bit (c .before .args .port) (omega arith), set-below 8 (λ p. inSet (c .before .args .set) p || eqb (c .before .args .port) p))
+add-result c =
+    let a = c .before .args in
+    let sum : a .set + 2 ^ a .port ≡ portSet 8 (λ p. inSet (a .set) p || eqb (a .port) p) = in-put (a .set) (a .port) (omega arith) (omega arith) (ne-eqb (bit (a .port) (a .set)) 1 (c .if1 .left)) in omega (arith, sum, one-bit (a .port) (omega arith), set-below 8 (λ p. inSet (a .set) p || eqb (a .port) p))
 
 returns : tie.Need-returns
-returns c = in-had (c .before .args .set) (c .before .args .port) (omega arith) (eq-eqb (bit (c .before .args .port) (c .before .args .set)) 1 (c .if1 .taken))
+returns c =
+    let a = c .before .args in
+    in-had (a .set) (a .port) (omega arith) (eq-eqb (bit (a .port) (a .set)) 1 (c .if1 .taken))
 
 returns-2 : tie.Need-returns-2
-returns-2 c = ap (λ (x : ℕ). c .before .args .set + x) (one-bit (c .before .args .port) (omega arith)) ∙ in-put (c .before .args .set) (c .before .args .port) (omega arith) (omega arith) (ne-eqb (bit (c .before .args .port) (c .before .args .set)) 1 (c .if1 .left))
+returns-2 c =
+    let a = c .before .args in
+    ap (λ (x : ℕ). a .set + x) (one-bit (a .port) (omega arith)) ∙ in-put (a .set) (a .port) (omega arith) (omega arith) (ne-eqb (bit (a .port) (a .set)) 1 (c .if1 .left))
 
 pub with-port-spec : {M : Type 1} → statement M
 with-port-spec = tie.close (tie.spec shr-if1 shl-result add-result returns returns-2)

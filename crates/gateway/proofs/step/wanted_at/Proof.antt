@@ -27,13 +27,17 @@ enum-told-3 : tie.Need-enum-told-3
 enum-told-3 c = search needs
 
 holding-requires : tie.Need-holding-requires
-holding-requires c κs = (few-lines (c .before .before .before .before .before .before .before .before .args .gateway) (c .before .before .before .before .before .before .before .before .pre), lines-below-8 (c .before .before .before .before .before .before .before .before .args .gateway) (c .before .before .before .before .before .before .before .before .pre))
+holding-requires c κs =
+    let a = c .before .before .before .before .before .before .before .before .args in
+    (few-lines (a .gateway) (c .before .before .before .before .before .before .before .before .pre), lines-below-8 (a .gateway) (c .before .before .before .before .before .before .before .before .pre))
 
 enum-told-4 : tie.Need-enum-told-4
 enum-told-4 c = search needs
 
 holding-requires-2 : tie.Need-holding-requires-2
-holding-requires-2 c κs = (few-lines (c .before .before .before .before .before .before .before .before .args .gateway) (c .before .before .before .before .before .before .before .before .pre), lines-below-8 (c .before .before .before .before .before .before .before .before .args .gateway) (c .before .before .before .before .before .before .before .before .pre))
+holding-requires-2 c κs =
+    let a = c .before .before .before .before .before .before .before .before .args in
+    (few-lines (a .gateway) (c .before .before .before .before .before .before .before .before .pre), lines-below-8 (a .gateway) (c .before .before .before .before .before .before .before .before .pre))
 
 returns-2 : tie.Need-returns-2
 returns-2 c =
