@@ -28,14 +28,14 @@ eqb-turned a b = go (eqb b a) refl
     go false e = ne-eqb a b (λ z. eqb-false b a e (sym z))
 
 -- No bit past a byte.
-no-bit : (p x : ℕ) → 8 ≤ p → x < 256 → inSet x p ≡ false
-no-bit p x l h =
+no-bit-past : (p x : ℕ) → 8 ≤ p → x < 256 → inSet x p ≡ false
+no-bit-past p x l h =
     let top : 256 ≤ 2 ^ p = pow-mono l in
     let sum : x ≡ 0 * 2 ^ p + x = omega arith in
     let none : x / 2 ^ p ≡ 0 = ap (λ (y : ℕ). y / 2 ^ p) sum ∙ high 0 p (le-trans h top) in
     ap (λ (y : ℕ). eqb (y % 2) 1) none
 
-pub one-more-mark : (marks q : ℕ) → marks < 256 → q < 8 → (p : ℕ) → inSet (portSet 8 (λ r. inSet marks r || eqb q r)) p ≡ (eqb p q || inSet marks p)
+one-more-mark : (marks q : ℕ) → marks < 256 → q < 8 → (p : ℕ) → inSet (portSet 8 (λ r. inSet marks r || eqb q r)) p ≡ (eqb p q || inSet marks p)
 one-more-mark marks q m l p = go (leb 8 p) refl
   where
     put : ℕ → Bool
@@ -44,7 +44,7 @@ one-more-mark marks q m l p = go (leb 8 p) refl
     go : (t : Bool) → leb 8 p ≡ t → inSet (portSet 8 put) p ≡ (eqb p q || inSet marks p)
     go true e =
         let far : 8 ≤ p = leb-true 8 p e in
-        no-bit p (portSet 8 put) far (set-below 8 put) ∙ sym (ap₂ (λ (s t : Bool). s || t) (ne-eqb p q (λ z. omega (arith, z, l, far))) (no-bit p marks far m))
+        no-bit-past p (portSet 8 put) far (set-below 8 put) ∙ sym (ap₂ (λ (s t : Bool). s || t) (ne-eqb p q (λ z. omega (arith, z, l, far))) (no-bit-past p marks far m))
     go false e = port-in-set 8 put p (leb-false 8 p e) ∙ or-comm (inSet marks p) (eqb q p) ∙ ap (λ (t : Bool). t || inSet marks p) (eqb-turned q p)
 
 -- ---- the three cases

@@ -72,7 +72,7 @@ none-at test n places i e l = go (test (at places i)) refl
 
 -- ---- a place written
 
-pub past-places : (n : ℕ) (places : List Line) (j : ℕ) (x : Line) → n ≤ j → firstPlaces n (set places j x) ≡ firstPlaces n places
+past-places : (n : ℕ) (places : List Line) (j : ℕ) (x : Line) → n ≤ j → firstPlaces n (set places j x) ≡ firstPlaces n places
 unfolding firstPlaces
 past-places zero places j x l = refl
 past-places (suc n) places j x l =
