@@ -19,31 +19,46 @@ const UNHEARD: u64 = 0x0A00_0000_00FF_0001;
 
 pub(crate) fn at_port_1() {
     heading(b"255, 256 and 257 announcements at port 1");
-    let g = started(4);
+    let g = up_to_255(started(4));
+    let g = the_256th(g);
+    let g = the_257th(g);
+    let g = freed(g);
+    used_again(g);
+}
+
+fn up_to_255(g: Gateway) -> Gateway {
     let g = announce_many(g, 1, BOARD_A, 255);
     left(b"A announces 255 events", g);
     let g = report(g, b"report of A's 255th", 0, EVENT_A + 254);
-    let g = report(g, b"report of one more, not announced", 0, EVENT_A + 255);
+    report(g, b"report of one more, not announced", 0, EVENT_A + 255)
+}
+
+fn the_256th(g: Gateway) -> Gateway {
     let g = announce(g, b"B announces the 256th", 1, BOARD_B, EVENT_B);
     let g = report(g, b"report of what none announced", 0, UNHEARD);
     let g = announce(g, b"A repeats its first", 1, BOARD_A, EVENT_A);
-    let g = announce(g, b"B repeats its own", 1, BOARD_B, EVENT_B);
+    announce(g, b"B repeats its own", 1, BOARD_B, EVENT_B)
+}
+
+fn the_257th(g: Gateway) -> Gateway {
     let g = announce(g, b"B announces the 257th", 1, BOARD_B, EVENT_B + 1);
     let g = report(g, b"report of the 257th", 0, EVENT_B + 1);
     let g = report(g, b"report of what none announced", 0, UNHEARD);
     let g = report(g, b"the same at the open port", 1, UNHEARD);
-    let g = announce(g, b"A repeats its first", 1, BOARD_A, EVENT_A);
-    freed(g);
+    announce(g, b"A repeats its first", 1, BOARD_A, EVENT_A)
 }
 
-fn freed(g: Gateway) {
+fn freed(g: Gateway) -> Gateway {
     heading(b"The lines freed and used again");
     let g = restart(g, b"A restarts at another port", 2, BOARD_A);
     let g = restart(g, b"A restarts", 1, BOARD_A);
     let g = report(g, b"report of what none announced", 0, UNHEARD);
     let g = announce(g, b"B announces the 257th again", 1, BOARD_B, EVENT_B + 1);
     let g = announce(g, b"A announces at port 2", 2, BOARD_A, EVENT_A);
-    let g = report(g, b"report of A's first", 0, EVENT_A);
+    report(g, b"report of A's first", 0, EVENT_A)
+}
+
+fn used_again(g: Gateway) {
     let g = announce_many(g, 1, BOARD_A, 20);
     left(b"A announces 20 events", g);
     let g = announce(g, b"A announces at port 3", 3, BOARD_A, EVENT_A);

@@ -22,16 +22,23 @@ fn from_a(g: Gateway, label: &[u8], mti: u64, event: u64) -> Gateway {
 
 pub(crate) fn announcing() {
     heading(b"What announces");
-    let g = started(4);
+    let g = not_announcing(started(4));
+    let g = from_a(g, b"04C5", 0x04C5, EVENT_A);
+    let g = report(g, b"report", 0, EVENT_A);
+    by_each_state(g);
+}
+
+fn not_announcing(g: Gateway) -> Gateway {
     let g = from_a(g, b"04C6", 0x04C6, EVENT_A);
     let g = from_a(g, b"0544", 0x0544, EVENT_A);
     let g = from_a(g, b"0524", 0x0524, EVENT_A);
     let g = from_a(g, b"08F4", 0x08F4, EVENT_A);
     let g = from_a(g, b"0594", 0x0594, EVENT_A);
     let g = from_a(g, b"14C4", 0x14C4, EVENT_A);
-    let g = report(g, b"report", 0, EVENT_A);
-    let g = from_a(g, b"04C5", 0x04C5, EVENT_A);
-    let g = report(g, b"report", 0, EVENT_A);
+    report(g, b"report", 0, EVENT_A)
+}
+
+fn by_each_state(g: Gateway) {
     let g = from_a(g, b"04C7 of the same", 0x04C7, EVENT_A);
     let g = from_a(g, b"04C7 of another", 0x04C7, EVENT_B);
     let g = from_a(g, b"04C4 of the same", 0x04C4, EVENT_B);
