@@ -9,6 +9,7 @@ use Rattle.range.specs.declared.Block.{Block}
 use Rattle.range.specs.declared.Answer.{Answer}
 use Rattle.range.specs.Range.{isBlock, inBlock}
 use Rattle.range.specs.Answer.{Told, yesOrNo, holdsTold}
+use Rattle.range.proofs.Laws.{holds-told}
 use Rattle.message.specs.Messages.{badNode}
 use Rattle.message.proofs.Writings.{neither}
 use Rattle.gateway_rules.specs.declared.Line.{Line}
@@ -30,12 +31,11 @@ block-good l e =
 
 -- ---- what the block's answer says
 
-says : (b : Block) (e : ℕ) (r : Answer) → isBlock b ≡ true → yesOrNo r ≡ holdsTold b e → yesOrNo r .value ≡ inBlock b e
-unfolding holdsTold
-says b e r g h = ap (λ (t : Told Bool). t .value) h ∙ rw g
+pub answer-says : (b : Block) (e : ℕ) (r s : Answer) → isBlock b ≡ true → yesOrNo r ≡ holdsTold b e → r ≡ s → inBlock b e ≡ yesOrNo s .value
+answer-says b e r s g h k = sym (ap (λ (t : Told Bool). t .value) (h ∙ holds-told b e g)) ∙ ap (λ (x : Answer). yesOrNo x .value) k
 
 pub line-says : (l : Line) (e : ℕ) (r s : Answer) → badAt 8 l ≡ false → yesOrNo r ≡ holdsTold (l .block) e → r ≡ s → inBlock (l .block) e ≡ yesOrNo s .value
-line-says l e r s g h k = sym (says (l .block) e r (block-good l g) h) ∙ ap (λ (x : Answer). yesOrNo x .value) k
+line-says l e r s g = answer-says (l .block) e r s (block-good l g)
 
 -- ---- one line
 

@@ -1,18 +1,18 @@
 -- What a state in bounds gives the code: at most 256 lines, and every line with a port below 8.
 use Prim.Native.Nat.{ℕ, _≤_}
 use mathlib.Core.Path.{_≡_, refl, sym, ap, _∙_}
-use mathlib.Core.Bool.{Bool, true, false, not, _&&_, _||_}
+use mathlib.Core.Bool.{Bool, true, false, not, _||_}
 use mathlib.Core.List.{List, [], _∷_}
 use native.Mathlib.Omega.{arith}
-use borrow.Author.Tests.{lt-leb, leb-true, leb-false, ltb-false, not-false}
+use borrow.Author.Tests.{lt-leb, leb-false, ltb-false, not-false}
 use lib.Dec.{eqb, leb, ltb}
 use Rattle.range.specs.Range.{isBlock}
-use Rattle.range.proofs.Laws.{both}
 use Rattle.message.specs.Messages.{badNode}
 use Rattle.message.proofs.Writings.{neither}
 use Rattle.gateway_rules.specs.declared.Line.{Line}
 use Rattle.gateway_rules.specs.declared.Gateway.{Gateway}
 use Rattle.gateway_rules.specs.State.{any, badPorts, badAutomatic, gateOf, outOfBounds}
+use Rattle.gateway_rules.proofs.Sending.{two-to-eight}
 use Rattle.gateway.specs.Answers.{badAt, inTable}
 use Rattle.gateway.proofs.Limits.{limits, stray}
 
@@ -45,7 +45,7 @@ pub few-lines : (g : Gateway) → outOfBounds (gateOf g) ≡ false → g .table 
 few-lines g o = ltb-false 256 (g .table .count) (parts g o .1)
 
 pub few-ports : (g : Gateway) → outOfBounds (gateOf g) ≡ false → g .ports ≤ 8
-few-ports g o = leb-true (g .ports) 8 (both (leb 2 (g .ports)) (leb (g .ports) 8) (not-false (leb 2 (g .ports) && leb (g .ports) 8) (parts g o .0)) .1)
+few-ports g o = two-to-eight (g .ports) .0 (parts g o .0) .1
 
 pub lines-below-8 : (g : Gateway) → outOfBounds (gateOf g) ≡ false → any (badAt 8) (inTable (g .table)) ≡ false
 lines-below-8 g o = good-lines (g .ports) (inTable (g .table)) (few-ports g o) (parts g o .2)

@@ -2,11 +2,12 @@
 use Prim.Native.Nat.{ℕ, _<_}
 use mathlib.Core.Path.{_≡_, refl, sym, ap, ap₂, _∙_}
 use mathlib.Core.Bool.{Bool, true, false, cond, not, _&&_}
-use native.Mathlib.Omega.{arith}
+use borrow.Author.Tests.{eq-eqb, ne-eqb}
 use lib.Dec.{eqb, ltb}
 use Rattle.message.specs.declared.Kind.{Kind}
 use Rattle.message.specs.declared.Kind.the-variants.{InitializationComplete, EventReport, IdentifyConsumer, IdentifyProducer, ConsumerIdentified, ProducerIdentified, ConsumerRangeIdentified, ProducerRangeIdentified, IdentifyEvents, LearnEvent, Other}
 use Rattle.message.specs.declared.Field.{Field}
+use Rattle.message.specs.declared.Field.the-variants.{Absent}
 use Rattle.message.specs.declared.Announcement.{Announcement}
 use Rattle.message.specs.declared.Announcement.the-variants.{Nothing}
 use Rattle.message.specs.declared.Message.{Message}
@@ -20,50 +21,31 @@ use Rattle.gateway.specs.Answers.{inSet, sortOf}
 
 -- ---- sorts
 
-not-one : {A : Type 0} → _≡_ {A = ℕ} 0 1 → A
-not-one e = absurd (omega (arith, e))
-
-not-two : {A : Type 0} → _≡_ {A = ℕ} 0 2 → A
-not-two e = absurd (omega (arith, e))
+-- What each sort is, and that a report announces nothing.
+by-sort : (k : Kind) (f : Field) → (isReport k ≡ eqb (sortOf k) 1) × (isRestart k ≡ eqb (sortOf k) 2) × (cond (eqb (sortOf k) 1) (announced k f) Nothing ≡ Nothing)
+by-sort InitializationComplete f = (refl, refl, refl)
+by-sort EventReport f = (refl, refl, refl)
+by-sort IdentifyConsumer f = (refl, refl, refl)
+by-sort IdentifyProducer f = (refl, refl, refl)
+by-sort ConsumerIdentified f = (refl, refl, refl)
+by-sort ProducerIdentified f = (refl, refl, refl)
+by-sort ConsumerRangeIdentified f = (refl, refl, refl)
+by-sort ProducerRangeIdentified f = (refl, refl, refl)
+by-sort IdentifyEvents f = (refl, refl, refl)
+by-sort LearnEvent f = (refl, refl, refl)
+by-sort Other f = (refl, refl, refl)
 
 report-sort : (k : Kind) (f : Field) → sortOf k ≡ 1 → (isReport k ≡ true) × (isRestart k ≡ false) × (announced k f ≡ Nothing)
-report-sort EventReport f e = (refl, refl, refl)
-report-sort InitializationComplete f e = absurd (omega (arith, e))
-report-sort IdentifyConsumer f e = not-one e
-report-sort IdentifyProducer f e = not-one e
-report-sort ConsumerIdentified f e = not-one e
-report-sort ProducerIdentified f e = not-one e
-report-sort ConsumerRangeIdentified f e = not-one e
-report-sort ProducerRangeIdentified f e = not-one e
-report-sort IdentifyEvents f e = not-one e
-report-sort LearnEvent f e = not-one e
-report-sort Other f e = not-one e
+report-sort k f e =
+    let one = eq-eqb (sortOf k) 1 e in
+    let sorted = by-sort k f in
+    (sorted .0 ∙ one, sorted .1 ∙ ap (λ (n : ℕ). eqb n 2) e, sym (ap (λ (t : Bool). cond t (announced k f) Nothing) one) ∙ sorted .2)
 
 restart-sort : (k : Kind) → sortOf k ≡ 2 → (isReport k ≡ false) × (isRestart k ≡ true)
-restart-sort InitializationComplete e = (refl, refl)
-restart-sort EventReport e = absurd (omega (arith, e))
-restart-sort IdentifyConsumer e = not-two e
-restart-sort IdentifyProducer e = not-two e
-restart-sort ConsumerIdentified e = not-two e
-restart-sort ProducerIdentified e = not-two e
-restart-sort ConsumerRangeIdentified e = not-two e
-restart-sort ProducerRangeIdentified e = not-two e
-restart-sort IdentifyEvents e = not-two e
-restart-sort LearnEvent e = not-two e
-restart-sort Other e = not-two e
+restart-sort k e = let sorted = by-sort k Absent in (sorted .0 ∙ ap (λ (n : ℕ). eqb n 1) e, sorted .1 ∙ eq-eqb (sortOf k) 2 e)
 
 other-sort : (k : Kind) → (sortOf k ≡ 1 → ⊥) → (sortOf k ≡ 2 → ⊥) → (isReport k ≡ false) × (isRestart k ≡ false)
-other-sort InitializationComplete f g = absurd (g refl)
-other-sort EventReport f g = absurd (f refl)
-other-sort IdentifyConsumer f g = (refl, refl)
-other-sort IdentifyProducer f g = (refl, refl)
-other-sort ConsumerIdentified f g = (refl, refl)
-other-sort ProducerIdentified f g = (refl, refl)
-other-sort ConsumerRangeIdentified f g = (refl, refl)
-other-sort ProducerRangeIdentified f g = (refl, refl)
-other-sort IdentifyEvents f g = (refl, refl)
-other-sort LearnEvent f g = (refl, refl)
-other-sort Other f g = (refl, refl)
+other-sort k f g = let sorted = by-sort k Absent in (sorted .0 ∙ ne-eqb (sortOf k) 1 f, sorted .1 ∙ ne-eqb (sortOf k) 2 g)
 
 -- ---- every port
 

@@ -1,8 +1,9 @@
 -- No event or an automatic one: every port; else the open ones and those with a line that holds it.
-use mathlib.Core.Path.{sym, ap, _∙_}
+use mathlib.Core.Path.{_∙_}
 use borrow.Author.Needs.{needs}
-use Rattle.range.specs.Answer.{yesOrNo}
+use Rattle.range.specs.declared.Answer.the-variants.{Yes, No, NoBlock}
 use Rattle.gateway_rules.specs.State.{gateOf}
+use Rattle.gateway.proofs.Held.{answer-says}
 use Rattle.gateway.proofs.InBounds.{few-lines, lines-below-8, automatic-block}
 use Rattle.gateway.proofs.Wanting.{absent, automatic, by-lines}
 use Rattle.gateway.proofs.step.wanted_at.Statement.{statement}
@@ -42,22 +43,26 @@ holding-requires-2 c κs =
 returns-2 : tie.Need-returns-2
 returns-2 c =
     let a = c .before .before .before .before .before .before .before .before .args in
-    let held = ap yesOrNo (sym (c .enum-told2 .given .1)) ∙ c .before .before .holds .ensures in
-    automatic (a .gateway) (a .event) _ (c .before .before .before .before .event .given .1) held
+    let block = automatic-block (a .gateway) (c .before .before .before .before .before .before .before .before .pre) in
+    let h = c .before .before .holds in
+    let said = answer-says (a .gateway .automatic) _ (h .result) Yes block (h .ensures) (c .enum-told2 .given .1) in
+    automatic (a .gateway) (a .event) _ (c .before .before .before .before .event .given .1) said
 
 returns-3 : tie.Need-returns-3
 returns-3 c =
     let a = c .before .before .before .before .before .before .before .before .before .args in
     let block = automatic-block (a .gateway) (c .before .before .before .before .before .before .before .before .before .pre) in
-    let held = ap yesOrNo (sym (c .before .enum-told3 .given .1)) ∙ c .before .before .before .holds .ensures in
-    c .holding .ensures ∙ by-lines (a .gateway) (a .event) _ (c .before .before .before .before .before .event .given .1) block 0 held
+    let h = c .before .before .before .holds in
+    let said = answer-says (a .gateway .automatic) _ (h .result) No block (h .ensures) (c .before .enum-told3 .given .1) in
+    c .holding .ensures ∙ by-lines (a .gateway) (a .event) _ (c .before .before .before .before .before .event .given .1) said
 
 returns-4 : tie.Need-returns-4
 returns-4 c =
     let a = c .before .before .before .before .before .before .before .before .before .args in
     let block = automatic-block (a .gateway) (c .before .before .before .before .before .before .before .before .before .pre) in
-    let held = ap yesOrNo (sym (c .before .enum-told4 .given .1)) ∙ c .before .before .before .holds .ensures in
-    c .holding2 .ensures ∙ by-lines (a .gateway) (a .event) _ (c .before .before .before .before .before .event .given .1) block 14 held
+    let h = c .before .before .before .holds in
+    let said = answer-says (a .gateway .automatic) _ (h .result) NoBlock block (h .ensures) (c .before .enum-told4 .given .1) in
+    c .holding2 .ensures ∙ by-lines (a .gateway) (a .event) _ (c .before .before .before .before .before .event .given .1) said
 
 pub wanted-at-spec : {M : Type 1} → statement M
 wanted-at-spec =
