@@ -3,7 +3,7 @@ use Prim.Native.Nat.{ℕ, suc, _-_, _<_}
 use mathlib.Core.Path.{_≡_, ap, _∙_}
 use mathlib.Core.Bool.{Bool, true, false, _||_}
 use native.Mathlib.Omega.{arith}
-use Rattle.gateway_rules.specs.State.{anyBelow}
+use Rattle.sets.specs.Sets.{anyBelow}
 
 top : (test : ℕ → Bool) (p : ℕ) → 0 < p → anyBelow p test ≡ (test (p - 1) || anyBelow (p - 1) test)
 top test p h = let next : p ≡ suc (p - 1) = omega arith in ap (λ (k : ℕ). anyBelow k test) next

@@ -10,13 +10,14 @@ use Rattle.range.specs.declared.Answer.{Answer}
 use Rattle.range.specs.Range.{isBlock, inBlock}
 use Rattle.range.specs.Answer.{Told, yesOrNo, holdsTold}
 use Rattle.range.proofs.Laws.{holds-told}
+use Rattle.sets.specs.Sets.{setOf, inSet}
 use Rattle.message.specs.Messages.{badNode}
 use Rattle.message.proofs.Writings.{neither}
 use Rattle.gateway_rules.specs.declared.Line.{Line}
 use Rattle.gateway_rules.specs.State.{any, firstPlaces}
-use Rattle.gateway_rules.specs.Step.{lineHolds, portSet}
-use Rattle.gateway_rules.proofs.PortSets.{set-ext, set-of-bits, port-in-set}
-use Rattle.gateway.specs.Answers.{badAt, inSet}
+use Rattle.gateway_rules.specs.Step.{lineHolds}
+use Rattle.sets.proofs.Sets.{set-ext, set-of-bits, member-of-set}
+use Rattle.gateway.specs.Answers.{badAt}
 use Rattle.gateway.proofs.Places.{at, any-more, no-places}
 
 -- ---- a line in bounds
@@ -39,12 +40,12 @@ line-says l e r s g = answer-says (l .block) e r s (block-good l g)
 
 -- ---- one line
 
-pub held : (set e : ℕ) (l : Line) → inBlock (l .block) e ≡ true → portSet 8 (λ p. inSet set p || eqb (l .port) p) ≡ portSet 8 (λ p. inSet set p || lineHolds p e l)
+pub held : (set e : ℕ) (l : Line) → inBlock (l .block) e ≡ true → setOf 8 (λ p. inSet set p || eqb (l .port) p) ≡ setOf 8 (λ p. inSet set p || lineHolds p e l)
 held set e l h =
     set-ext 8 (λ p. inSet set p || eqb (l .port) p) (λ p. inSet set p || lineHolds p e l)
     (λ p _. sym (ap (λ (t : Bool). inSet set p || (eqb (l .port) p && t)) h ∙ ap (λ (t : Bool). inSet set p || t) (and-true (eqb (l .port) p))))
 
-pub not-held : (set e : ℕ) (l : Line) → set < 256 → inBlock (l .block) e ≡ false → set ≡ portSet 8 (λ p. inSet set p || lineHolds p e l)
+pub not-held : (set e : ℕ) (l : Line) → set < 256 → inBlock (l .block) e ≡ false → set ≡ setOf 8 (λ p. inSet set p || lineHolds p e l)
 not-held set e l f h =
     sym (set-of-bits 8 set f)
     ∙ set-ext 8 (inSet set) (λ p. inSet set p || lineHolds p e l)
@@ -52,19 +53,19 @@ not-held set e l f h =
 
 -- ---- the lines before a place
 
-pub none-yet : (set e : ℕ) (places : List Line) → set < 256 → set ≡ portSet 8 (λ p. inSet set p || any (lineHolds p e) (firstPlaces 0 places))
+pub none-yet : (set e : ℕ) (places : List Line) → set < 256 → set ≡ setOf 8 (λ p. inSet set p || any (lineHolds p e) (firstPlaces 0 places))
 none-yet set e places f =
     sym (set-of-bits 8 set f)
     ∙ set-ext 8 (inSet set) (λ p. inSet set p || any (lineHolds p e) (firstPlaces 0 places))
     (λ p _. sym (ap (λ (xs : List Line). inSet set p || any (lineHolds p e) xs) (no-places places) ∙ or-false (inSet set p)))
 
 pub one-line-more : (set e i wanted : ℕ) (places : List Line)
-    → wanted ≡ portSet 8 (λ p. inSet set p || any (lineHolds p e) (firstPlaces i places))
-    → portSet 8 (λ p. inSet wanted p || lineHolds p e (at places i)) ≡ portSet 8 (λ p. inSet set p || any (lineHolds p e) (firstPlaces (i + 1) places))
+    → wanted ≡ setOf 8 (λ p. inSet set p || any (lineHolds p e) (firstPlaces i places))
+    → setOf 8 (λ p. inSet wanted p || lineHolds p e (at places i)) ≡ setOf 8 (λ p. inSet set p || any (lineHolds p e) (firstPlaces (i + 1) places))
 one-line-more set e i wanted places w =
     let before : ℕ → Bool = λ p. inSet set p || any (lineHolds p e) (firstPlaces i places) in
     set-ext 8 (λ p. inSet wanted p || lineHolds p e (at places i)) (λ p. inSet set p || any (lineHolds p e) (firstPlaces (i + 1) places))
     (λ p l.
-    ap (λ (t : Bool). t || lineHolds p e (at places i)) (ap (λ (x : ℕ). inSet x p) w ∙ port-in-set 8 before p l)
+    ap (λ (t : Bool). t || lineHolds p e (at places i)) (ap (λ (x : ℕ). inSet x p) w ∙ member-of-set 8 before p l)
     ∙ or-assoc (inSet set p) (any (lineHolds p e) (firstPlaces i places)) (lineHolds p e (at places i))
     ∙ ap (λ (t : Bool). inSet set p || t) (sym (any-more (lineHolds p e) i places)))

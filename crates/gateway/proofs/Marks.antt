@@ -9,13 +9,14 @@ use borrow.Author.Tests.{eq-eqb, eqb-false, eqb-true, leb-true, leb-false, le-lt
 use lib.Dec.{eqb, leb, ltb}
 use lib.ListN.{length}
 use lib.Pow.{pow-mono, high}
+use Rattle.sets.specs.Sets.{setOf, inSet}
 use Rattle.gateway_rules.specs.declared.Line.{Line}
 use Rattle.gateway_rules.specs.declared.Table.{Table}
 use Rattle.gateway_rules.specs.declared.Gateway.{Gateway}
 use Rattle.gateway_rules.specs.State.{gateOf}
-use Rattle.gateway_rules.specs.Step.{has, withLines, announce, portSet}
-use Rattle.gateway_rules.proofs.PortSets.{set-below, port-in-set}
-use Rattle.gateway.specs.Answers.{inTable, inSet}
+use Rattle.gateway_rules.specs.Step.{has, withLines, announce}
+use Rattle.sets.proofs.Sets.{set-below, member-of-set}
+use Rattle.gateway.specs.Answers.{inTable}
 use Rattle.gateway.proofs.Places.{count-places}
 
 -- ---- the marks with one more
@@ -35,17 +36,17 @@ no-bit-past p x l h =
     let none : x / 2 ^ p ≡ 0 = ap (λ (y : ℕ). y / 2 ^ p) sum ∙ high 0 p (le-trans h top) in
     ap (λ (y : ℕ). eqb (y % 2) 1) none
 
-one-more-mark : (marks q : ℕ) → marks < 256 → q < 8 → (p : ℕ) → inSet (portSet 8 (λ r. inSet marks r || eqb q r)) p ≡ (eqb p q || inSet marks p)
+one-more-mark : (marks q : ℕ) → marks < 256 → q < 8 → (p : ℕ) → inSet (setOf 8 (λ r. inSet marks r || eqb q r)) p ≡ (eqb p q || inSet marks p)
 one-more-mark marks q m l p = go (leb 8 p) refl
   where
     put : ℕ → Bool
     put r = inSet marks r || eqb q r
 
-    go : (t : Bool) → leb 8 p ≡ t → inSet (portSet 8 put) p ≡ (eqb p q || inSet marks p)
+    go : (t : Bool) → leb 8 p ≡ t → inSet (setOf 8 put) p ≡ (eqb p q || inSet marks p)
     go true e =
         let far : 8 ≤ p = leb-true 8 p e in
-        no-bit-past p (portSet 8 put) far (set-below 8 put) ∙ sym (ap₂ (λ (s t : Bool). s || t) (ne-eqb p q (λ z. omega (arith, z, l, far))) (no-bit-past p marks far m))
-    go false e = port-in-set 8 put p (leb-false 8 p e) ∙ or-comm (inSet marks p) (eqb q p) ∙ ap (λ (t : Bool). t || inSet marks p) (eqb-turned q p)
+        no-bit-past p (setOf 8 put) far (set-below 8 put) ∙ sym (ap₂ (λ (s t : Bool). s || t) (ne-eqb p q (λ z. omega (arith, z, l, far))) (no-bit-past p marks far m))
+    go false e = member-of-set 8 put p (leb-false 8 p e) ∙ or-comm (inSet marks p) (eqb q p) ∙ ap (λ (t : Bool). t || inSet marks p) (eqb-turned q p)
 
 -- ---- the three cases
 
@@ -62,7 +63,7 @@ module _ (g : Gateway) (l : Line) where
       rw (n, room) (ap (withLines (gateOf g)) e)
 
   pub opened-port : (marks : ℕ) → has (inTable (g .table)) l ≡ false → 256 ≤ g .table .count → g .marks < 256 → l .port < 8
-      → marks ≡ portSet 8 (λ p. inSet (g .marks) p || eqb (l .port) p)
+      → marks ≡ setOf 8 (λ p. inSet (g .marks) p || eqb (l .port) p)
       → gateOf (record { ports = g .ports; automatic = g .automatic; marks = marks; table = g .table }) ≡ announce (gateOf g) l
   unfolding announce gateOf
   opened-port marks n f m q e =

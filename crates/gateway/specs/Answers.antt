@@ -14,7 +14,8 @@ use Rattle.gateway_rules.specs.declared.Line.{Line}
 use Rattle.gateway_rules.specs.declared.Gateway.{Gateway}
 use Rattle.gateway_rules.specs.declared.Table.{Table}
 use Rattle.gateway_rules.specs.State.{Gate, firstPlaces, gateOf}
-use Rattle.gateway_rules.specs.Step.{Outcome, portSet}
+use Rattle.sets.specs.Sets.{setOf}
+use Rattle.gateway_rules.specs.Step.{Outcome}
 use Rattle.gateway.specs.declared.Answer.{Answer}
 
 pub record Seen : Type 0 where
@@ -27,7 +28,7 @@ seenIn a = record { refusal = a .refusal; sent = a .sent; gate = gateOf (a .gate
 
 -- The same of what the rules give.
 abbrev pub seenOf : Outcome → Seen
-seenOf o = record { refusal = o .refusal; sent = portSet 8 (o .to); gate = o .next }
+seenOf o = record { refusal = o .refusal; sent = setOf 8 (o .to); gate = o .next }
 
 -- A refusal leaves the whole state as it was, the places past the count too (document 01, "Refusal numbers": state and slots stay as before).
 abbrev pub refusalKeeps : Gateway → Answer → Type 0
@@ -42,10 +43,6 @@ inTable t = firstPlaces (t .count) (t .lines)
 -- A line that is out of bounds, by the port count.
 abbrev pub badAt : ℕ → Line → Bool
 badAt ports l = leb ports (l .port) || (badNode (l .node) || not (isBlock (l .block)))
-
--- A port is in a set.
-abbrev pub inSet : ℕ → ℕ → Bool
-inSet set p = eqb (bit p set) 1
 
 -- A refusal's number, 0 for a message.
 abbrev pub numberOf : Reading → ℕ

@@ -4,8 +4,9 @@ ghost use mathlib.Core.Bool.{false, _||_};
 ghost use mathlib.Core.List.{[], _∷_, _++_};
 ghost use Prim.Native.Nat.{_+_, _≤_, _<_};
 ghost use Rattle.gateway_rules.specs.State.{any};
-ghost use Rattle.gateway_rules.specs.Step.{sameLine, has as hasLine, ownedAt, without, lineHolds, portSet};
-ghost use Rattle.gateway.specs.Answers.{inTable, badAt, inSet};
+ghost use Rattle.sets.specs.Sets.{setOf, inSet};
+ghost use Rattle.gateway_rules.specs.Step.{sameLine, has as hasLine, ownedAt, without, lineHolds};
+ghost use Rattle.gateway.specs.Answers.{inTable, badAt};
 use crate::ports;
 use gateway_rules::Line;
 use gateway_rules::Table;
@@ -92,7 +93,7 @@ fn owned(l: Line, port: u8, node: u64) -> bool
 pub(crate) fn holding(table: Table, e: u64, set: u8) -> u8
     requires { ⌜ table .count ≤ 256 ⌝ }
     requires { ⌜ any (badAt 8) (inTable table) ≡ false ⌝ }
-    ensures { λ r. ⌜ r ≡ portSet 8 (λ p. inSet set p || any (lineHolds p e) (inTable table)) ⌝ }
+    ensures { λ r. ⌜ r ≡ setOf 8 (λ p. inSet set p || any (lineHolds p e) (inTable table)) ⌝ }
 {
     let count = table.count;
     let mut wanted = set;
@@ -107,7 +108,7 @@ pub(crate) fn holding(table: Table, e: u64, set: u8) -> u8
 
 fn held_by(set: u8, l: Line, e: u64) -> u8
     requires { ⌜ badAt 8 l ≡ false ⌝ }
-    ensures { λ r. ⌜ r ≡ portSet 8 (λ p. inSet set p || lineHolds p e l) ⌝ }
+    ensures { λ r. ⌜ r ≡ setOf 8 (λ p. inSet set p || lineHolds p e l) ⌝ }
 {
     let block = l.block;
     let port = l.port;

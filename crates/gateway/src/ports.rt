@@ -3,13 +3,12 @@ ghost use mathlib.Core.Path.{_≡_};
 ghost use mathlib.Core.Bool.{not, cond, _&&_, _||_};
 ghost use Prim.Native.Nat.{_+_, _<_, _^_};
 ghost use lib.Dec.{eqb, ltb};
-ghost use Rattle.gateway_rules.specs.Step.{portSet};
-ghost use Rattle.gateway.specs.Answers.{inSet};
+ghost use Rattle.sets.specs.Sets.{setOf, inSet};
 
 // A set with a port put in.
 pub(crate) fn with_port(set: u8, port: u8) -> u8
     requires { ⌜ port < 8 ⌝ }
-    ensures { λ r. ⌜ r ≡ portSet 8 (λ p. inSet set p || eqb port p) ⌝ }
+    ensures { λ r. ⌜ r ≡ setOf 8 (λ p. inSet set p || eqb port p) ⌝ }
 {
     if (set >> port) % 2 == 1 {
         set
@@ -20,7 +19,7 @@ pub(crate) fn with_port(set: u8, port: u8) -> u8
 
 // The ports of a set that are there, but for the one of arrival.
 pub(crate) fn others(set: u8, ports: u8, port: u8) -> u8
-    ensures { λ r. ⌜ r ≡ portSet 8 (λ p. ltb p ports && (not (eqb p port) && inSet set p)) ⌝ }
+    ensures { λ r. ⌜ r ≡ setOf 8 (λ p. ltb p ports && (not (eqb p port) && inSet set p)) ⌝ }
 {
     let mut sent: u8 = 0;
     let mut p: u8 = 0;

@@ -3,7 +3,8 @@ ghost use mathlib.Core.Path.{_≡_};
 ghost use mathlib.Core.Bool.{false};
 ghost use Prim.Native.Nat.{_<_};
 ghost use Rattle.gateway_rules.specs.State.{gateOf, outOfBounds};
-ghost use Rattle.gateway_rules.specs.Step.{announce as announceTo, hear as hearAt, restart as restartOf, taking, wantsReport, portSet};
+ghost use Rattle.sets.specs.Sets.{setOf};
+ghost use Rattle.gateway_rules.specs.Step.{announce as announceTo, hear as hearAt, restart as restartOf, taking, wantsReport};
 ghost use Rattle.gateway.specs.Answers.{seenIn, seenOf, sortOf};
 use crate::Answer;
 use crate::lines;
@@ -72,7 +73,7 @@ fn sort_of(kind: Kind) -> u8
 // The ports that want a report.
 fn wanted_at(gateway: Gateway, event: Field) -> u8
     requires { ⌜ outOfBounds (gateOf gateway) ≡ false ⌝ }
-    ensures { λ r. ⌜ r ≡ portSet 8 (λ p. wantsReport (gateOf gateway) p event) ⌝ }
+    ensures { λ r. ⌜ r ≡ setOf 8 (λ p. wantsReport (gateOf gateway) p event) ⌝ }
 {
     let automatic = gateway.automatic;
     let table = gateway.table;

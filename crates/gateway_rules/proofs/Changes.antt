@@ -2,7 +2,7 @@
 use Prim.Native.Nat.{ℕ, _≤_, _<_}
 use mathlib.Core.Path.{_≡_, refl}
 use mathlib.Core.Bool.{Bool, true, false, cond, false≢true}
-use mathlib.Core.List.{[]}
+use mathlib.Core.List.{List, [], _∷_, _++_}
 use borrow.Author.Tests.{ltb-true, ltb-false}
 use lib.Dec.{ltb}
 use lib.ListN.{length}
@@ -17,6 +17,7 @@ use Rattle.message.specs.Mti.{isRestart, kindOf}
 use Rattle.message.specs.Announcing.{announced, announcementOf}
 use Rattle.gateway_rules.specs.State.{Gate, full}
 use Rattle.gateway_rules.specs.Step.{line, has, adding, opening, announce, restart, hear, taken}
+use Rattle.gateway_rules.specs.History.{Heard, told}
 
 pub data Change (g : Gate) (q : ℕ) (m : Message) : Gate → Type 0 where
   restarted : isRestart (kindOf (m .mti)) ≡ true → Change g q m (restart g q (m .source))
@@ -66,3 +67,8 @@ change-of g q m = by-kind (isRestart (kindOf (m .mti))) refl
     by-kind : (t : Bool) → isRestart (kindOf (m .mti)) ≡ t → Change g q m (cond t (restart g q (m .source)) (hear g q (m .source) (announcementOf m)))
     by-kind true e = restarted e
     by-kind false e = by-announcement e (announcementOf m) refl
+
+-- One message more at the end of a history.
+pub told-end : (g : Gate) (h : List Heard) (s : Heard) → told g (h ++ (s ∷ [])) ≡ taken (told g h) (s .port) (s .message)
+told-end g [] s = refl
+told-end g (x ∷ h) s = told-end (taken g (x .port) (x .message)) h s

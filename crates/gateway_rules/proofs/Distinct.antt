@@ -17,8 +17,8 @@ use Rattle.gateway_rules.specs.State.{Gate, full, noLine, firstPlaces, g
 use Rattle.gateway_rules.specs.Step.{sameLine, has, ownedAt, without, step, start}
 use Rattle.gateway_rules.specs.History.{Entry, after, Heard, accepted, told}
 use Rattle.gateway_rules.proofs.Lists.{same-line, has-append, has-without}
-use Rattle.gateway_rules.proofs.Sinces.{by-end, told-end}
-use Rattle.gateway_rules.proofs.Changes.{Change, change-of}
+use Rattle.histories.proofs.Sinces.{by-end}
+use Rattle.gateway_rules.proofs.Changes.{Change, change-of, told-end}
 use Rattle.gateway_rules.proofs.Changes.Change.{restarted, known, added, opened, passed}
 use Rattle.gateway_rules.proofs.Bounds.{bounded-in, bounded-start}
 use Rattle.gateway_rules.proofs.Hearing.{history-told}

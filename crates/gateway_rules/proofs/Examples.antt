@@ -14,7 +14,7 @@ use Rattle.message.specs.Announcing.{announcementOf}
 use Rattle.gateway_rules.specs.State.{Gate, outOfBounds, startOf}
 use Rattle.gateway_rules.specs.Step.{announce, taken, wants, goesTo, step}
 use Rattle.gateway_rules.specs.History.{Entry, Heard, Live, told}
-use Rattle.gateway_rules.specs.History.Never.{nothing, nor}
+use Rattle.histories.specs.Since.Never.{nothing, nor}
 
 -- ---- document 01's seven entries
 

@@ -19,8 +19,8 @@ use Rattle.gateway_rules.specs.State.{Gate, full}
 use Rattle.gateway_rules.specs.Step.{line, sameLine, has, ownedAt, without}
 use Rattle.gateway_rules.specs.History.{Heard, Announces, Restarts, Live, told, Overflows, Opened}
 use Rattle.gateway_rules.proofs.Lists.{same-line, has-append, has-without, length-without}
-use Rattle.gateway_rules.proofs.Sinces.{by-end, told-end, since-none, since-new, since-old, since-end}
-use Rattle.gateway_rules.proofs.Changes.{Change, restart-silent, change-of}
+use Rattle.histories.proofs.Sinces.{by-end, since-none, since-new, since-old, since-end}
+use Rattle.gateway_rules.proofs.Changes.{Change, restart-silent, change-of, told-end}
 use Rattle.gateway_rules.proofs.Changes.Change.{restarted, known, added, opened, passed}
 
 -- ---- live and opened, one message later

@@ -1,5 +1,4 @@
 pub mod Lists
-pub mod Sinces
 pub mod Changes
 pub mod Holding
 pub mod Bounds
@@ -11,4 +10,3 @@ pub mod Distinct
 pub mod Sharing
 pub mod Examples
 pub mod Reported
-pub mod PortSets

@@ -15,7 +15,7 @@ use Rattle.gateway_rules.specs.State.{Gate, startOf}
 use Rattle.gateway_rules.specs.Step.{without, Outcome, step, startTests, starting, start}
 use Rattle.gateway_rules.specs.History.{Entry, after, Heard, accepted, Announces, Restarts, Live, Opened, Reports, HeldBack, announcing, concerns, concerning}
 use Rattle.gateway_rules.proofs.OwnLines.{without-append}
-use Rattle.gateway_rules.proofs.Sinces.{by-end}
+use Rattle.histories.proofs.Sinces.{by-end}
 use Rattle.gateway_rules.proofs.Holding.{live-new, live-old, live-end, true-or-false}
 use Rattle.gateway_rules.proofs.Demand3.{demand-3}
 

@@ -5,6 +5,7 @@ use mathlib.Core.Bool.{Bool, true, false, cond, not, _&&_, _||_}
 use mathlib.Core.List.{List, [], _∷_, _++_}
 use lib.Dec.{eqb, ltb}
 use lib.ListN.{length}
+use Rattle.histories.specs.Since.{Since}
 use Rattle.range.specs.declared.Block.{Block}
 use Rattle.range.specs.Range.{inBlock}
 use Rattle.message.specs.declared.Field.the-variants.{Present}
@@ -57,20 +58,6 @@ pub record Restarts (p n : ℕ) (s : Heard) : Type 0 where
   pub complete : isRestart (kindOf (s .message .mti)) ≡ true
 
 -- ---- since
-
--- Nothing in a list ends it.
-pub data Never (ends : Heard → Type 0) : List Heard → Type 0 where
-  nothing : Never ends []
-  nor : {s : Heard} {h : List Heard} → (ends s → ⊥) → Never ends h → Never ends (s ∷ h)
-
--- Somewhere a message starts it, given those before, and none after that one ends it.
-pub record Since (starts : List Heard → Heard → Type 0) (ends : Heard → Type 0) (h : List Heard) : Type 0 where
-  pub before : List Heard
-  pub by : Heard
-  pub later : List Heard
-  pub split : h ≡ before ++ (by ∷ later)
-  pub started : starts before by
-  pub lasting : Never ends later
 
 -- An announcement is live from when it is accepted until that node restarts at that port.
 unfoldable pub Live : List Heard → ℕ → ℕ → Block → Type 0

@@ -5,7 +5,8 @@ use mathlib.Core.List.{List, [], _∷_, _++_}
 use lib.Dec.{eqb, leb, ltb}
 use lib.ListN.{length, getD}
 use Rattle.range.specs.declared.Block.{Block}
-use Rattle.range.specs.Range.{bit, isBlock, blockOf}
+use Rattle.range.specs.Range.{isBlock, blockOf}
+use Rattle.sets.specs.Sets.{inSet, anyBelow}
 use Rattle.message.specs.Messages.{badNode}
 use Rattle.gateway_rules.specs.declared.Line.{Line}
 use Rattle.gateway_rules.specs.declared.Gateway.{Gateway}
@@ -36,7 +37,7 @@ gateOf g = record {
   ports = g .ports;
   automatic = g .automatic;
   lines = firstPlaces (g .table .count) (g .table .lines);
-  marked = λ p. eqb (bit p (g .marks)) 1;
+  marked = inSet (g .marks);
 }
 
 -- ---- out of bounds
@@ -44,10 +45,6 @@ gateOf g = record {
 abbrev pub any : {A : Type 0} → (A → Bool) → List A → Bool
 any test [] = false
 any test (x ∷ xs) = test x || any test xs
-
-abbrev pub anyBelow : ℕ → (ℕ → Bool) → Bool
-anyBelow zero test = false
-anyBelow (suc n) test = test n || anyBelow n test
 
 -- Ports not 2 to 8.
 abbrev pub badPorts : ℕ → Bool

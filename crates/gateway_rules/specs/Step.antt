@@ -85,11 +85,6 @@ wantsReport g p Absent = true
 unfoldable pub goesTo : Gate → ℕ → Message → ℕ → Bool
 goesTo g q m p = ltb p (g .ports) && (not (eqb p q) && cond (isReport (kindOf (m .mti))) (wantsReport g p (m .event)) true)
 
--- A set of ports as a number: bit p for port p.
-unfoldable pub portSet : ℕ → (ℕ → Bool) → ℕ
-portSet zero to = 0
-portSet (suc n) to = portSet n to + cond (to n) (2 ^ n) 0
-
 -- ---- the step
 
 pub record Outcome : Type 0 where

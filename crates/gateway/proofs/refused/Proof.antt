@@ -2,7 +2,7 @@
 use mathlib.Core.Path.{refl, sym}
 use mathlib.Core.List.{[]}
 use Rattle.gateway_rules.specs.State.{gateOf}
-use Rattle.gateway_rules.proofs.PortSets.{nobody}
+use Rattle.sets.proofs.Sets.{nobody}
 use Rattle.gateway.proofs.refused.Statement.{statement}
 use Rattle.gateway.proofs.refused.Tie as tie
 

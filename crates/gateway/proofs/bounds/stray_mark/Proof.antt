@@ -7,7 +7,7 @@ use native.Mathlib.Omega.{arith}
 use lib.Dec.{eqb, leb}
 use borrow.Author.Tests.{eq-eqb, ne-eqb, le-leb, lt-leb}
 use Rattle.gateway.proofs.Below.{top-fails, top-passes}
-use Rattle.gateway_rules.specs.State.{anyBelow}
+use Rattle.sets.specs.Sets.{anyBelow}
 use Rattle.range.specs.Range.{bit}
 use Rattle.gateway.proofs.bounds.stray_mark.Statement.{statement}
 use Rattle.gateway.proofs.bounds.stray_mark.Tie as tie

@@ -8,11 +8,8 @@ use borrow.Author.Needs.{needs}
 use Rattle.gateway_rules.specs.State.{any, firstPlaces}
 use Rattle.gateway_rules.specs.Step.{sameLine}
 use Rattle.gateway.proofs.Places.{at, any-more, any-at, no-places}
-use Rattle.gateway.proofs.Places.{any-more, any-at, no-places}
 use Rattle.gateway.proofs.lines.has.Statement.{statement}
 use Rattle.gateway.proofs.lines.has.Tie as tie
-
--- The lines before place i do not pass.
 
 abbrev Inv-loop : tie.InvT-loop
 Inv-loop l table count i₀ i = (i ≤ table .count) × (any (sameLine l) (firstPlaces i (table .lines)) ≡ false)

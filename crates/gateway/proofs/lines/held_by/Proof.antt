@@ -8,8 +8,6 @@ use Rattle.gateway.proofs.Held.{port-below, line-says, held, not-held}
 use Rattle.gateway.proofs.lines.held_by.Statement.{statement}
 use Rattle.gateway.proofs.lines.held_by.Tie as tie
 
--- Its own port is put in where the block holds the event.
-
 holds-requires : tie.Need-holds-requires
 holds-requires c κs = search needs
 

@@ -6,8 +6,9 @@ use mathlib.Core.List.{[]}
 use native.Mathlib.Omega.{arith}
 use Rattle.gateway.proofs.Held.{none-yet, one-line-more}
 use Rattle.gateway_rules.specs.State.{any, firstPlaces}
-use Rattle.gateway_rules.specs.Step.{lineHolds, portSet}
-use Rattle.gateway.specs.Answers.{inSet, badAt}
+use Rattle.sets.specs.Sets.{setOf, inSet}
+use Rattle.gateway_rules.specs.Step.{lineHolds}
+use Rattle.gateway.specs.Answers.{badAt}
 use Rattle.gateway.proofs.Places.{none-at}
 use Rattle.gateway.proofs.lines.holding.Statement.{statement}
 use Rattle.gateway.proofs.lines.holding.Tie as tie
@@ -15,7 +16,7 @@ use Rattle.gateway.proofs.lines.holding.Tie as tie
 -- The lines before the place have had their say.
 
 abbrev Inv-loop : tie.InvT-loop
-Inv-loop e set table count wanted₀ place₀ wanted place = (place ≤ table .count) × (wanted ≡ portSet 8 (λ p. inSet set p || any (lineHolds p e) (firstPlaces place (table .lines))))
+Inv-loop e set table count wanted₀ place₀ wanted place = (place ≤ table .count) × (wanted ≡ setOf 8 (λ p. inSet set p || any (lineHolds p e) (firstPlaces place (table .lines))))
 
 abbrev μ-loop : tie.MeasureT-loop
 μ-loop e set table count wanted₀ place₀ wanted place = table .count - place
@@ -50,7 +51,7 @@ returns : tie.Need-returns Inv-loop μ-loop
 returns c =
     let a = c .before .before .args in
     let l = c .before .loop in
-    let all : l .place ≡ a .t1 .count = omega arith in l .inv .1 ∙ ap (λ (k : ℕ). portSet 8 (λ p. inSet (a .set) p || any (lineHolds p (a .e)) (firstPlaces k (a .t1 .lines)))) all
+    let all : l .place ≡ a .t1 .count = omega arith in l .inv .1 ∙ ap (λ (k : ℕ). setOf 8 (λ p. inSet (a .set) p || any (lineHolds p (a .e)) (firstPlaces k (a .t1 .lines)))) all
 
 pub holding-spec : {M : Type 1} → statement M
 holding-spec =

@@ -7,9 +7,8 @@ use native.Mathlib.Omega.{arith}
 use borrow.Author.Needs.{needs}
 use lib.Dec.{eqb, ltb}
 use Rattle.gateway.proofs.Bits.{next-port}
-use Rattle.gateway_rules.specs.Step.{portSet}
-use Rattle.gateway_rules.proofs.PortSets.{set-below}
-use Rattle.gateway.specs.Answers.{inSet}
+use Rattle.sets.specs.Sets.{setOf, inSet}
+use Rattle.sets.proofs.Sets.{set-below}
 use Rattle.gateway.proofs.ports.others.Statement.{statement}
 use Rattle.gateway.proofs.ports.others.Tie as tie
 
@@ -18,13 +17,13 @@ use Rattle.gateway.proofs.ports.others.Tie as tie
 -- The ports below p are settled.
 
 abbrev Inv-loop : tie.InvT-loop
-Inv-loop set ports port sent₀ p₀ sent p = (p ≤ 8) × (sent ≡ portSet p (λ q. ltb q ports && (not (eqb q port) && inSet set q)))
+Inv-loop set ports port sent₀ p₀ sent p = (p ≤ 8) × (sent ≡ setOf p (λ q. ltb q ports && (not (eqb q port) && inSet set q)))
 
 abbrev μ-loop : tie.MeasureT-loop
 μ-loop set ports port sent₀ p₀ sent p = 8 - p
 
 loop-holds : tie.Need-loop-holds Inv-loop μ-loop
-unfolding portSet
+unfolding setOf
 loop-holds c = (omega arith, refl)
 
 goes-requires : tie.Need-goes-requires Inv-loop μ-loop
@@ -52,7 +51,7 @@ returns : tie.Need-returns Inv-loop μ-loop
 returns c =
     let a = c .before .before .args in
     let l = c .before .loop in
-    let all : l .p ≡ 8 = omega arith in l .inv .1 ∙ ap (λ (k : ℕ). portSet k (λ q. ltb q (a .ports) && (not (eqb q (a .port)) && inSet (a .set) q))) all
+    let all : l .p ≡ 8 = omega arith in l .inv .1 ∙ ap (λ (k : ℕ). setOf k (λ q. ltb q (a .ports) && (not (eqb q (a .port)) && inSet (a .set) q))) all
 
 pub others-spec : {M : Type 1} → statement M
 others-spec =

@@ -8,9 +8,8 @@ use borrow.Author.Needs.{needs}
 use lib.Dec.{eqb}
 use borrow.Author.Tests.{eq-eqb, ne-eqb}
 use Rattle.range.specs.Range.{bit}
-use Rattle.gateway_rules.specs.Step.{portSet}
-use Rattle.gateway_rules.proofs.PortSets.{set-below}
-use Rattle.gateway.specs.Answers.{inSet}
+use Rattle.sets.specs.Sets.{setOf, inSet}
+use Rattle.sets.proofs.Sets.{set-below}
 use Rattle.gateway.proofs.Bits.{one-bit, in-put, in-had}
 use Rattle.gateway.proofs.ports.with_port.Statement.{statement}
 use Rattle.gateway.proofs.ports.with_port.Tie as tie
@@ -24,7 +23,7 @@ shl-result c = search needs
 add-result : tie.Need-add-result
 add-result c =
     let a = c .before .args in
-    let sum : a .set + 2 ^ a .port ≡ portSet 8 (λ p. inSet (a .set) p || eqb (a .port) p) = in-put (a .set) (a .port) (omega arith) (omega arith) (ne-eqb (bit (a .port) (a .set)) 1 (c .if1 .left)) in omega (arith, sum, one-bit (a .port) (omega arith), set-below 8 (λ p. inSet (a .set) p || eqb (a .port) p))
+    let sum : a .set + 2 ^ a .port ≡ setOf 8 (λ p. inSet (a .set) p || eqb (a .port) p) = in-put (a .set) (a .port) (omega arith) (omega arith) (ne-eqb (bit (a .port) (a .set)) 1 (c .if1 .left)) in omega (arith, sum, one-bit (a .port) (omega arith), set-below 8 (λ p. inSet (a .set) p || eqb (a .port) p))
 
 returns : tie.Need-returns
 returns c =
