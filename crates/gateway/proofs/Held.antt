@@ -10,11 +10,11 @@ use Rattle.range.specs.declared.Answer.{Answer}
 use Rattle.range.specs.Range.{isBlock, inBlock}
 use Rattle.range.specs.Answer.{Told, yesOrNo, holdsTold}
 use Rattle.range.proofs.Laws.{holds-told}
-use Rattle.sets.specs.Sets.{setOf, inSet}
+use Rattle.sets.specs.Sets.{any, setOf, inSet}
 use Rattle.message.specs.Messages.{badNode}
 use Rattle.message.proofs.Writings.{neither}
 use Rattle.gateway_rules.specs.declared.Line.{Line}
-use Rattle.gateway_rules.specs.State.{any, firstPlaces}
+use Rattle.gateway_rules.specs.State.{firstPlaces}
 use Rattle.gateway_rules.specs.Step.{lineHolds}
 use Rattle.sets.proofs.Sets.{set-ext, set-of-bits, member-of-set}
 use Rattle.gateway.specs.Answers.{badAt}

@@ -11,7 +11,8 @@ use Rattle.message.specs.Messages.{badNode}
 use Rattle.message.proofs.Writings.{neither}
 use Rattle.gateway_rules.specs.declared.Line.{Line}
 use Rattle.gateway_rules.specs.declared.Gateway.{Gateway}
-use Rattle.gateway_rules.specs.State.{any, badPorts, badAutomatic, gateOf, outOfBounds}
+use Rattle.sets.specs.Sets.{any}
+use Rattle.gateway_rules.specs.State.{badPorts, badAutomatic, gateOf, outOfBounds}
 use Rattle.gateway_rules.proofs.Sending.{two-to-eight}
 use Rattle.gateway.specs.Answers.{badAt, inTable}
 use Rattle.gateway.proofs.Limits.{limits, stray}

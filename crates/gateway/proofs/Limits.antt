@@ -6,9 +6,9 @@ use mathlib.Core.List.{[]}
 use borrow.Author.Tests.{lt-ltb, le-ltb}
 use lib.Dec.{eqb, leb, ltb}
 use Rattle.range.specs.Range.{bit}
-use Rattle.sets.specs.Sets.{anyBelow}
+use Rattle.sets.specs.Sets.{any, anyBelow}
 use Rattle.gateway_rules.specs.declared.Gateway.{Gateway}
-use Rattle.gateway_rules.specs.State.{any, badPorts, badAutomatic, gateOf, outOfBounds}
+use Rattle.gateway_rules.specs.State.{badPorts, badAutomatic, gateOf, outOfBounds}
 use Rattle.gateway.specs.Answers.{badAt, inTable}
 use Rattle.gateway.proofs.Places.{count-places}
 

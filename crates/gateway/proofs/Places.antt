@@ -10,9 +10,10 @@ use native.Mathlib.Omega.{arith}
 use lib.ListN.{length, getD, set, length-append}
 use lib.Seq.{getD-set-same, getD-set-other}
 use Rattle.gateway_rules.specs.declared.Line.{Line}
-use Rattle.gateway_rules.specs.State.{any, firstPlaces, noLine}
+use Rattle.sets.specs.Sets.{any}
+use Rattle.gateway_rules.specs.State.{firstPlaces, noLine}
 use Rattle.gateway_rules.specs.Step.{without}
-use Rattle.gateway_rules.proofs.Lists.{any-append}
+use Rattle.sets.proofs.Sets.{any-append}
 use Rattle.gateway_rules.proofs.OwnLines.{without-append}
 
 abbrev pub at : List Line → ℕ → Line

@@ -3,11 +3,11 @@ use Prim.Native.Nat.{ℕ}
 use mathlib.Core.Path.{_≡_, sym, ap, _∙_}
 use mathlib.Core.Bool.{Bool, true, false, _||_}
 use Rattle.range.specs.Range.{inBlock}
-use Rattle.sets.specs.Sets.{setOf, inSet}
+use Rattle.sets.specs.Sets.{any, setOf, inSet}
 use Rattle.message.specs.declared.Field.{Field}
 use Rattle.message.specs.declared.Field.the-variants.{Present, Absent}
 use Rattle.gateway_rules.specs.declared.Gateway.{Gateway}
-use Rattle.gateway_rules.specs.State.{Gate, any, gateOf}
+use Rattle.gateway_rules.specs.State.{Gate, gateOf}
 use Rattle.gateway_rules.specs.Step.{lineHolds, wants, wantsReport}
 use Rattle.gateway.specs.Answers.{inTable}
 use Rattle.gateway.proofs.Sends.{every}

@@ -22,10 +22,11 @@ use Rattle.message.specs.declared.Announcement.the-variants.{Of, Nothing}
 use Rattle.message.specs.Mti.{kindOf}
 use Rattle.message.specs.Messages.{badNode}
 use Rattle.message.specs.Announcing.{announced, announcementOf}
-use Rattle.sets.specs.Sets.{anyBelow}
-use Rattle.gateway_rules.specs.State.{Gate, full, any, badPorts, badLine, badAutomatic, outOfBounds, startOf}
+use Rattle.sets.specs.Sets.{any, anyBelow}
+use Rattle.gateway_rules.specs.State.{Gate, full, badPorts, badLine, badAutomatic, outOfBounds, startOf}
 use Rattle.gateway_rules.specs.Step.{line, ownedAt, taken}
-use Rattle.gateway_rules.proofs.Lists.{any-append, length-without, without-none}
+use Rattle.sets.proofs.Sets.{any-append}
+use Rattle.gateway_rules.proofs.Lists.{length-without, without-none}
 use Rattle.gateway_rules.proofs.Changes.{Change, change-of}
 use Rattle.gateway_rules.proofs.Changes.Change.{restarted, known, added, opened, passed}
 use Rattle.gateway_rules.proofs.Holding.{either-true, true-or-false}

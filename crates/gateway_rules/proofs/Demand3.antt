@@ -15,7 +15,8 @@ use Rattle.message.specs.declared.Message.{Message}
 use Rattle.message.specs.Reading.{messageIn}
 use Rattle.message.specs.Refusals.{firstOf, answered}
 use Rattle.message.proofs.Writings.{neither}
-use Rattle.gateway_rules.specs.State.{Gate, any, badPorts, startOf}
+use Rattle.sets.specs.Sets.{any}
+use Rattle.gateway_rules.specs.State.{Gate, badPorts, startOf}
 use Rattle.gateway_rules.specs.Step.{line, lineHolds, wants, wantsReport, goesTo, taking, refusing, stepTests, Outcome, step, start}
 use Rattle.gateway_rules.specs.History.{Entry, after, Heard, accepted, told, Live, Opened, Reports, HeldBack}
 use Rattle.gateway_rules.proofs.Lists.{has-any, any-has}

@@ -12,7 +12,8 @@ use lib.Dec.{eqb}
 use Rattle.range.specs.Range.{sameBlock}
 use Rattle.range.proofs.Laws.{both, same-block}
 use Rattle.gateway_rules.specs.declared.Line.{Line}
-use Rattle.gateway_rules.specs.State.{any}
+use Rattle.sets.specs.Sets.{any}
+use Rattle.sets.proofs.Sets.{any-append}
 use Rattle.gateway_rules.specs.Step.{sameLine, has, without}
 
 -- ---- one line and another
@@ -38,10 +39,6 @@ same-line a b = (there, back)
         )
 
 -- ---- any
-
-pub any-append : {A : Type 0} (test : A → Bool) (xs ys : List A) → any test (xs ++ ys) ≡ (any test xs || any test ys)
-any-append test [] ys = refl
-any-append test (x ∷ xs) ys = ap (λ (t : Bool). test x || t) (any-append test xs ys) ∙ sym (or-assoc (test x) (any test xs) (any test ys))
 
 -- A line that is there and passes a test, and a test that some line passes.
 pub has-any : (test : Line → Bool) (lines : List Line) (l : Line) → has lines l ≡ true → test l ≡ true → any test lines ≡ true

@@ -6,7 +6,7 @@ use lib.Dec.{eqb, leb, ltb}
 use lib.ListN.{length, getD}
 use Rattle.range.specs.declared.Block.{Block}
 use Rattle.range.specs.Range.{isBlock, blockOf}
-use Rattle.sets.specs.Sets.{inSet, anyBelow}
+use Rattle.sets.specs.Sets.{any, inSet, anyBelow}
 use Rattle.message.specs.Messages.{badNode}
 use Rattle.gateway_rules.specs.declared.Line.{Line}
 use Rattle.gateway_rules.specs.declared.Gateway.{Gateway}
@@ -41,10 +41,6 @@ gateOf g = record {
 }
 
 -- ---- out of bounds
-
-abbrev pub any : {A : Type 0} → (A → Bool) → List A → Bool
-any test [] = false
-any test (x ∷ xs) = test x || any test xs
 
 -- Ports not 2 to 8.
 abbrev pub badPorts : ℕ → Bool

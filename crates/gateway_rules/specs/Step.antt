@@ -16,7 +16,8 @@ use Rattle.message.specs.Reading.{messageIn, readTests}
 use Rattle.message.specs.Announcing.{announcementOf}
 use Rattle.message.specs.Refusals.{Test, refuse, firstOf, answered}
 use Rattle.gateway_rules.specs.declared.Line.{Line}
-use Rattle.gateway_rules.specs.State.{Gate, full, any, badPorts, outOfBounds, startOf}
+use Rattle.sets.specs.Sets.{any}
+use Rattle.gateway_rules.specs.State.{Gate, full, badPorts, outOfBounds, startOf}
 
 -- ---- lines
 

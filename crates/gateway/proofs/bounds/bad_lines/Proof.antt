@@ -5,7 +5,8 @@ use mathlib.Core.Bool.{Bool, false, _||_}
 use mathlib.Core.List.{[]}
 use native.Mathlib.Omega.{arith}
 use borrow.Author.Needs.{needs}
-use Rattle.gateway_rules.specs.State.{any, firstPlaces}
+use Rattle.sets.specs.Sets.{any}
+use Rattle.gateway_rules.specs.State.{firstPlaces}
 use Rattle.gateway.specs.Answers.{badAt}
 use Rattle.gateway.proofs.Places.{at, any-more, any-at, no-places}
 use Rattle.gateway.proofs.Places.{any-more, any-at, no-places}

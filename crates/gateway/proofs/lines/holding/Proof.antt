@@ -5,8 +5,8 @@ use mathlib.Core.Bool.{_||_}
 use mathlib.Core.List.{[]}
 use native.Mathlib.Omega.{arith}
 use Rattle.gateway.proofs.Held.{none-yet, one-line-more}
-use Rattle.gateway_rules.specs.State.{any, firstPlaces}
-use Rattle.sets.specs.Sets.{setOf, inSet}
+use Rattle.gateway_rules.specs.State.{firstPlaces}
+use Rattle.sets.specs.Sets.{any, setOf, inSet}
 use Rattle.gateway_rules.specs.Step.{lineHolds}
 use Rattle.gateway.specs.Answers.{badAt}
 use Rattle.gateway.proofs.Places.{none-at}
