@@ -1,5 +1,5 @@
 -- What the box does with a message (document 01, "Gateway": "For a message accepted at port q"; order of refusals 7, 8, then reading).
-use Prim.Native.Nat.{ℕ, zero, suc, _+_, _^_}
+use Prim.Native.Nat.{ℕ, _+_}
 use mathlib.Core.Bool.{Bool, true, false, cond, not, _&&_, _||_}
 use mathlib.Core.List.{List, [], _∷_, _++_}
 use lib.Dec.{eqb, leb, ltb}

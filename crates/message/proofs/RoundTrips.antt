@@ -73,7 +73,7 @@ number-at : (s ys : List ℕ) (at w x : ℕ) → drop at s ≡ bytesOf w x ++ ys
 number-at s ys at w x e h = ap numberIn (piece-at s (bytesOf w x) ys at w e (bytes-length w x)) ∙ number-of-bytes w x ∙ mod-eq-of-lt h
 
 -- A field that is where its flag says is read back.
-abbrev Below : ℕ → Field → Type 0
+abbrev pub Below : ℕ → Field → Type 0
 Below n (Present x) = x < n
 Below n Absent = Unit {0}
 

@@ -1,6 +1,5 @@
 -- A set of no port is 0.
 use mathlib.Core.Path.{refl, sym}
-use mathlib.Core.List.{[]}
 use Rattle.gateway_rules.specs.State.{gateOf}
 use Rattle.sets.proofs.Sets.{nobody}
 use Rattle.gateway.proofs.refused.Statement.{statement}

@@ -1,6 +1,5 @@
 -- Its own port is put in where the block holds the event.
 use mathlib.Core.Path.{_∙_}
-use mathlib.Core.List.{[]}
 use native.Mathlib.Omega.{arith}
 use borrow.Author.Needs.{needs}
 use Rattle.range.specs.declared.Answer.the-variants.{Yes, No, NoBlock}

@@ -1,0 +1,59 @@
+-- What a board in bounds has.
+use Prim.Native.Nat.{ℕ, zero, suc, _≤_, _<_}
+use mathlib.Core.Path.{_≡_, refl, ap, _∙_}
+use mathlib.Core.Logic.{⊎-elim}
+use mathlib.Core.Bool.{Bool, true, false, not}
+use native.Mathlib.Nat.{eq-or-lt-of-le, le-of-suc-le-suc, not-suc-le-zero}
+use native.Mathlib.Omega.{arith}
+use borrow.Author.Tests.{eqb-true, ltb-false, not-false, leb-true, leb-false}
+use lib.Dec.{eqb, leb, ltb}
+use lib.ListN.{length}
+use Rattle.range.specs.Range.{hasNumber}
+use Rattle.sets.specs.Sets.{anyBelow}
+use Rattle.message.proofs.Writings.{neither}
+use Rattle.node_rules.specs.Boards.{Board, count, roleOf, statusOf, markOf, badLengths, badRecord, badSlot, badSlots, outOfBounds}
+use Rattle.node_rules.proofs.Marking.{past-end}
+
+pub record InBounds (b : Board) : Type 0 where
+  pub events : length (b .slots .events) ≡ count (b .slots)
+  pub statuses : length (b .slots .statuses) ≡ count (b .slots)
+  pub marks : length (b .slots .marks) ≡ count (b .slots)
+  pub few : count (b .slots) ≤ 64
+  pub automatic : hasNumber (b .node .automatic) ≡ true
+  pub slots : badSlots (b .node .state) (b .slots) ≡ false
+
+pub in-bounds : (b : Board) → outOfBounds b ≡ false → InBounds b
+unfolding outOfBounds
+in-bounds b h =
+    let s = b .slots in
+    let n = count s in
+    let lengths = neither (badLengths n (length (s .events)) (length (s .statuses)) (length (s .marks))) _ h in
+    let rest = neither (badRecord (b .node)) (badSlots (b .node .state) s) (lengths .1) in
+    let e = neither (not (eqb (length (s .events)) n)) _ (lengths .0) in
+    let t = neither (not (eqb (length (s .statuses)) n)) _ (e .1) in
+    let m = neither (not (eqb (length (s .marks)) n)) (ltb 64 n) (t .1) in
+    record {
+      events = eqb-true (length (s .events)) n (not-false _ (e .0));
+      statuses = eqb-true (length (s .statuses)) n (not-false _ (t .0));
+      marks = eqb-true (length (s .marks)) n (not-false _ (m .0));
+      few = ltb-false 64 n (m .1);
+      automatic = not-false _ (neither (ltb 1 (b .node .state)) (not (hasNumber (b .node .automatic))) (rest .0) .1);
+      slots = rest .1;
+    }
+
+pub below-none : (n : ℕ) (test : ℕ → Bool) (i : ℕ) → anyBelow n test ≡ false → i < n → test i ≡ false
+below-none zero test i h l = absurd (not-suc-le-zero l)
+below-none (suc n) test i h l =
+    let p = neither (test n) (anyBelow n test) h in
+    ⊎-elim (λ e. ap test e ∙ p .0) (below-none n test i (p .1)) (eq-or-lt-of-le (le-of-suc-le-suc l))
+
+-- Every role is one of the two.
+pub role-small : (b : Board) → outOfBounds b ≡ false → (i : ℕ) → roleOf (b .slots) i ≤ 1
+role-small b h i = go (leb (count (b .slots)) i) refl
+  where
+    go : (t : Bool) → leb (count (b .slots)) i ≡ t → roleOf (b .slots) i ≤ 1
+    go true e = let none = past-end (b .slots .roles) i (leb-true (count (b .slots)) i e) in omega (arith, none)
+    go false e =
+        let s = b .slots in
+        let good = below-none (count s) (λ i. badSlot (b .node .state) (roleOf s i) (statusOf s i) (markOf s i)) i (in-bounds b h .slots) (leb-false (count s) i e) in
+        ltb-false 1 (roleOf s i) (neither (ltb 1 (roleOf s i)) _ good .0)

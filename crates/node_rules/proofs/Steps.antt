@@ -1,0 +1,96 @@
+-- The ways in which a call can go, and what it writes.
+use Prim.Native.Nat.{ℕ, zero, suc, _^_, _<_}
+use mathlib.Core.Path.{_≡_, refl, sym, ap, _∙_}
+use mathlib.Core.Bool.{Bool, true, false, true≢false}
+use mathlib.Core.List.{List, [], _∷_, _++_, append-nil}
+use native.Mathlib.Omega.{arith}
+use borrow.Author.Tests.{eqb-true, not-false}
+use lib.Dec.{eqb}
+use lib.ListN.{length, drop}
+use lib.Seq.{take-append-seam}
+use Rattle.message.specs.declared.Message.{Message}
+use Rattle.message.specs.Messages.{badNode}
+use Rattle.message.specs.Reading.{messageIn}
+use Rattle.message.specs.Refusals.{Test, firstOf, answered, None}
+use Rattle.message.proofs.Firsts.{numbered, first-none, first-passed, rest-passed}
+use Rattle.node_rules.specs.Boards.{Board, producer, advertised, initialized, count, roleOf, eventOf, markOf}
+use Rattle.node_rules.specs.Sending.{completeBy, report, allBytes, chosen, answering, identifying}
+use Rattle.node_rules.specs.Calls.{Outcome, accepting, refusing, noMatch, boardTests, slotTests, restarted, identifyingAll, withStatus, taking, matching, inquiryOf, replying, initialiseTests, announceTests, produceTests, setStatusTests, receiveTests, initialise, announce, produce, setStatus, receive}
+use Rattle.node_rules.specs.Histories.{Call, outcome, lentTo, doneBy, messagesIn, isInitialise}
+use Rattle.node_rules.specs.Histories.Call.{initialised, announced, produced, statusSet, received}
+use Rattle.node_rules.proofs.Pieces.{AllReadable, messages-back, plain-readable, complete-readable, report-plain, identified-plain}
+use Rattle.node_rules.proofs.Pieces.AllReadable.{none, also}
+
+-- A call is refused; or it initialises, identifies some slots, reports an Advertised producer slot, or sets a status.
+pub data Happened (b : Board) (c : Call) : Outcome → Type 0 where
+  refused : (n : ℕ) → (n ≡ 0 → ⊥) → Happened b c (refusing b n)
+  restarts : isInitialise c ≡ true → badNode (b .node .id) ≡ false → Happened b c (accepting (completeBy (b .node .id) ∷ []) noMatch (restarted b))
+  identifies : (js : List ℕ) (matches : ℕ → Bool) → isInitialise c ≡ false → badNode (b .node .id) ≡ false
+      → (eqb (b .node .state) initialized ≡ false → js ≡ []) → Happened b c (accepting (identifying b js) matches (identifyingAll b js))
+  reports : (i : ℕ) → isInitialise c ≡ false → badNode (b .node .id) ≡ false → eqb (b .node .state) initialized ≡ true
+      → roleOf (b .slots) i ≡ producer → markOf (b .slots) i ≡ advertised → Happened b c (accepting (report b i ∷ []) noMatch b)
+  sets : (i status : ℕ) → isInitialise c ≡ false → Happened b c (accepting [] noMatch (withStatus b i status))
+
+-- ---- each call is one of them
+
+-- Refused, or every test was passed.
+either : {A : Type 0} (b : Board) (c : Call) (accept : A → Outcome) (ts : List Test) (x : A) → numbered ts ≡ true
+    → (None ts → Happened b c (accept x)) → Happened b c (answered accept (refusing b) (firstOf ts) x)
+either b c accept ts x n made = go (firstOf ts) refl
+  where
+    go : (k : ℕ) → firstOf ts ≡ k → Happened b c (answered accept (refusing b) k x)
+    go zero e = made (first-none ts n .0 e)
+    go (suc k) e = refused (suc k) (λ z. absurd (omega (arith, z)))
+
+node-good : (b : Board) {ts : List Test} → None (boardTests b ++ ts) → badNode (b .node .id) ≡ false
+node-good b p = first-passed (rest-passed p)
+
+was-initialized : (b : Board) (i : ℕ) {ts : List Test} → None (boardTests b ++ (slotTests b i ++ ts)) → eqb (b .node .state) initialized ≡ true
+was-initialized b i p = not-false _ (first-passed (rest-passed (rest-passed p)))
+
+nobody-asked : (n : ℕ) → chosen n (λ _. false) ≡ []
+unfolding chosen
+nobody-asked zero = refl
+nobody-asked (suc n) = append-nil (chosen n (λ _. false)) ∙ nobody-asked n
+
+silent : (b : Board) (m : Message) → eqb (b .node .state) initialized ≡ false → replying b m ≡ []
+unfolding answering inquiryOf
+silent b m h = rw h (nobody-asked (count (b .slots)))
+
+pub happened : (b : Board) (c : Call) → Happened b c (outcome b c)
+unfolding initialise announce produce setStatus receive
+happened b (initialised out) =
+    either b (initialised out) (accepting (completeBy (b .node .id) ∷ []) noMatch) (initialiseTests b (length out)) (restarted b) refl
+    (λ p. restarts refl (node-good b p))
+happened b (announced i out) =
+    either b (announced i out) (accepting (identifying b (i ∷ [])) noMatch) (announceTests b i (length out)) (identifyingAll b (i ∷ [])) refl
+    (λ p. identifies (i ∷ []) noMatch refl (node-good b p) (λ s. absurd (true≢false (sym (was-initialized b i p) ∙ s))))
+happened b (produced i out) =
+    either b (produced i out) (accepting (report b i ∷ []) noMatch) (produceTests b i (length out)) b refl
+    (λ p.
+    let q = rest-passed (rest-passed (rest-passed (rest-passed p))) in
+    reports i refl (node-good b p) (was-initialized b i p) (eqb-true _ _ (not-false _ (first-passed q))) (eqb-true _ _ (not-false _ (first-passed (rest-passed q)))))
+happened b (statusSet i status) =
+    either b (statusSet i status) (accepting [] noMatch) (setStatusTests b i status) (withStatus b i status) refl (λ p. sets i status refl)
+happened b (received bytes out) =
+    either b (received bytes out) (taking b) (receiveTests b bytes (length out)) (messageIn bytes) refl
+    (λ p. identifies (replying b (messageIn bytes)) (matching b (messageIn bytes)) refl (node-good b p) (silent b (messageIn bytes)))
+
+-- ---- what was written is what was sent
+
+all-identified : (b : Board) (js : List ℕ) → badNode (b .node .id) ≡ false → ((i : ℕ) → eventOf (b .slots) i < 2 ^ 64) → AllReadable (identifying b js)
+all-identified b [] h fit = none
+all-identified b (j ∷ js) h fit =
+    also (plain-readable _ (b .node .id) (eventOf (b .slots) j) (identified-plain _ _) h (fit j)) (all-identified b js h fit)
+
+all-readable : {b : Board} {c : Call} {o : Outcome} → ((i : ℕ) → eventOf (b .slots) i < 2 ^ 64) → Happened b c o → AllReadable (o .sent)
+all-readable fit (refused n h) = none
+all-readable {b = b} fit (restarts i h) = also (complete-readable (b .node .id) h) none
+all-readable {b = b} fit (identifies js matches i h s) = all-identified b js h fit
+all-readable {b = b} fit (reports i f h s r m) = also (plain-readable 0x05B4 (b .node .id) (eventOf (b .slots) i) report-plain h (fit i)) none
+all-readable fit (sets i status f) = none
+
+pub written-read : (b : Board) (c : Call) {o : Outcome} → ((i : ℕ) → eventOf (b .slots) i < 2 ^ 64) → Happened b c o → messagesIn (doneBy c o .bytes) ≡ o .sent
+written-read b c {o = o} fit h =
+    let bytes = allBytes (o .sent) in
+    ap messagesIn (take-append-seam bytes (drop (length bytes) (lentTo c))) ∙ messages-back (o .sent) (all-readable fit h)

@@ -1,0 +1,90 @@
+-- That nothing above is vacuous, by computation: a new node whose report is written, and a node that answers Identify Events.
+use Prim.Native.Nat.{ℕ, zero, suc, _^_, _<_}
+use mathlib.Core.Path.{_≡_, refl}
+use mathlib.Core.Bool.{true, false}
+use mathlib.Core.List.{List, [], _∷_, _++_}
+use native.Mathlib.Omega.{arith}
+use Rattle.range.specs.Range.{isBlock, inBlock, hasNumber}
+use Rattle.numbers.specs.Numbers.{spelled, bytesOf}
+use Rattle.message.specs.declared.Kind.the-variants.{EventReport}
+use Rattle.message.specs.Mti.{meaningOf}
+use Rattle.message.specs.Messages.{badNodes, badContent, otherSource}
+use Rattle.message.specs.Reading.{fieldsIn, readOf}
+use Rattle.node_rules.specs.Boards.{Board, unadvertised, eventOf, markOf, outOfBounds, each}
+use Rattle.node_rules.specs.Sending.{withEvent, identifiedMti, chosen, answering}
+use Rattle.node_rules.specs.Calls.{inquiryOf, initialise, announce, produce, receive}
+use Rattle.node_rules.specs.Histories.{Call, outcome, done, after, messagesUpTo, wrote, New, IdentifiedSince, log}
+use Rattle.node_rules.specs.Histories.Call.{initialised, announced, produced, received}
+use Rattle.node_rules.proofs.Demand2.{reports-identified}
+
+-- A signal board: slots 0 and 1 produce the same event, slot 2 consumes it, slot 3 consumes an automatic one.
+abbrev event : ℕ
+event = 0x0A00000000010001
+
+abbrev clock : ℕ
+clock = 0x0100000000000007
+
+abbrev board : Board
+board = record {
+  node = record { id = 0x0A0000000001; state = 0; automatic = record { start = 0x0100000000000000; k = 16 } };
+  slots = record {
+    roles = 0 ∷ 0 ∷ 1 ∷ 1 ∷ [];
+    events = event ∷ event ∷ event ∷ clock ∷ [];
+    statuses = 2 ∷ 0 ∷ 1 ∷ 0 ∷ [];
+    marks = 0 ∷ 0 ∷ 0 ∷ 0 ∷ [];
+  };
+}
+
+abbrev lent : ℕ → List ℕ
+lent zero = []
+lent (suc n) = 0 ∷ lent n
+
+unmarked : (i : ℕ) → markOf (board .slots) i ≡ unadvertised
+unmarked zero = refl
+unmarked (suc zero) = refl
+unmarked (suc (suc zero)) = refl
+unmarked (suc (suc (suc zero))) = refl
+unmarked (suc (suc (suc (suc i)))) = refl
+
+fit : (i : ℕ) → eventOf (board .slots) i < 2 ^ 64
+fit zero = omega arith
+fit (suc zero) = omega arith
+fit (suc (suc zero)) = omega arith
+fit (suc (suc (suc zero))) = omega arith
+fit (suc (suc (suc (suc i)))) = omega arith
+
+new : New board
+new = record { fresh = refl; unmarked = unmarked; fit = fit }
+
+-- Slot 0 is announced, slot 1 reports.
+abbrev twoCalls : List Call
+twoCalls = initialised (lent 14) ∷ announced 0 (lent 16) ∷ []
+
+reported : wrote EventReport event (done (after board twoCalls) (produced 1 (lent 16))) ≡ true
+unfolding initialise announce produce outOfBounds hasNumber isBlock inBlock each identifiedMti messagesUpTo meaningOf readOf fieldsIn badNodes badContent otherSource spelled bytesOf
+reported = refl
+
+outside : inBlock (board .node .automatic) event ≡ false
+unfolding inBlock
+outside = refl
+
+pub something-identified : IdentifiedSince event (log board twoCalls)
+something-identified = reports-identified board new twoCalls (produced 1 (lent 16)) event outside reported
+
+-- Restarted, the same call is refused with 12.
+pub restart-forgets : outcome (after board (twoCalls ++ (initialised (lent 14) ∷ []))) (produced 1 (lent 16)) .refusal ≡ 12
+unfolding initialise announce produce outOfBounds hasNumber isBlock inBlock each identifiedMti meaningOf bytesOf
+restart-forgets = refl
+
+-- Identify Events: Producer Identified unknown by slot 0, Consumer Identified invalid by slot 2, nothing for the automatic event.
+abbrev identifyEvents : List ℕ
+identifyEvents = bytesOf 2 0x0970 ++ bytesOf 6 0x0A0000000009
+
+pub answers : outcome (after board (initialised (lent 14) ∷ [])) (received identifyEvents (lent 32)) .sent
+    ≡ withEvent 0x0547 0x0A0000000001 event ∷ withEvent 0x04C5 0x0A0000000001 event ∷ []
+unfolding initialise receive outOfBounds hasNumber isBlock inBlock each identifiedMti inquiryOf answering chosen meaningOf fieldsIn badNodes badContent otherSource spelled bytesOf
+answers = refl
+
+pub answers-mark : outcome (after board (initialised (lent 14) ∷ [])) (received identifyEvents (lent 32)) .next .slots .marks ≡ 1 ∷ 1 ∷ 1 ∷ 1 ∷ []
+unfolding initialise receive outOfBounds hasNumber isBlock inBlock each identifiedMti inquiryOf answering chosen meaningOf fieldsIn badNodes badContent otherSource spelled bytesOf
+answers-mark = refl

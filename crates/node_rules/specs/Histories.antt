@@ -1,0 +1,129 @@
+-- Sequences of calls, and what they gave (document 01, "Node": "Demand 2's rule on reports").
+use Prim.Native.Nat.{ℕ, zero, suc, _+_, _^_, _<_}
+use mathlib.Core.Path.{_≡_}
+use mathlib.Core.Bool.{Bool, true, false, cond, _&&_}
+use mathlib.Core.List.{List, [], _∷_, _++_}
+use lib.Dec.{eqb}
+use lib.ListN.{length, take, drop}
+use Rattle.histories.specs.Since.{Since}
+use Rattle.sets.specs.Sets.{any}
+use Rattle.message.specs.declared.Kind.{Kind}
+use Rattle.message.specs.declared.Kind.the-variants.{ProducerIdentified}
+use Rattle.message.specs.declared.Field.{Field}
+use Rattle.message.specs.declared.Field.the-variants.{Present, Absent}
+use Rattle.message.specs.declared.Message.{Message}
+use Rattle.message.specs.declared.Reading.{Reading}
+use Rattle.message.specs.declared.Reading.the-variants.{Read, Refused}
+use Rattle.message.specs.Mti.{sameKind, kindOf, meaningOf, contentAt}
+use Rattle.message.specs.Refusals.{Test}
+use Rattle.message.specs.Reading.{mtiIn, readOf}
+use Rattle.message.specs.Writing.{overwritten}
+use Rattle.node_rules.specs.Boards.{Board, notInitialized, unadvertised, eventOf, markOf}
+use Rattle.node_rules.specs.Sending.{allBytes}
+use Rattle.node_rules.specs.Calls.{Outcome, initialiseTests, announceTests, produceTests, setStatusTests, receiveTests, initialise, announce, produce, setStatus, receive}
+
+-- A call, with the output that was lent to it.
+pub data Call : Type 0 where
+  initialised : (out : List ℕ) → Call
+  announced : (slot : ℕ) (out : List ℕ) → Call
+  produced : (slot : ℕ) (out : List ℕ) → Call
+  statusSet : (slot status : ℕ) → Call
+  received : (bytes out : List ℕ) → Call
+
+abbrev pub outcome : Board → Call → Outcome
+outcome b (initialised out) = initialise b (length out)
+outcome b (announced slot out) = announce b slot (length out)
+outcome b (produced slot out) = produce b slot (length out)
+outcome b (statusSet slot status) = setStatus b slot status
+outcome b (received bytes out) = receive b bytes (length out)
+
+-- The tests of a call, in their order.
+abbrev pub testsOf : Board → Call → List Test
+testsOf b (initialised out) = initialiseTests b (length out)
+testsOf b (announced slot out) = announceTests b slot (length out)
+testsOf b (produced slot out) = produceTests b slot (length out)
+testsOf b (statusSet slot status) = setStatusTests b slot status
+testsOf b (received bytes out) = receiveTests b bytes (length out)
+
+abbrev pub lentTo : Call → List ℕ
+lentTo (initialised out) = out
+lentTo (announced slot out) = out
+lentTo (produced slot out) = out
+lentTo (statusSet slot status) = []
+lentTo (received bytes out) = out
+
+-- The output after a call: what is written stands at its start.
+abbrev pub outAfter : List ℕ → Outcome → List ℕ
+outAfter out o = overwritten out (allBytes (o .sent))
+
+-- ---- what an onlooker sees
+
+-- A call, its refusal or 0, and the bytes that it gave.
+pub record Done : Type 0 where
+  pub call : Call
+  pub refusal : ℕ
+  pub bytes : List ℕ
+
+abbrev pub doneBy : Call → Outcome → Done
+doneBy c o = record { call = c; refusal = o .refusal; bytes = take (length (allBytes (o .sent))) (outAfter (lentTo c) o) }
+
+abbrev pub done : Board → Call → Done
+done b c = doneBy c (outcome b c)
+
+-- The board after calls, refused ones among them, the oldest first.
+abbrev pub after : Board → List Call → Board
+after b [] = b
+after b (c ∷ cs) = after (outcome b c .next) cs
+
+abbrev pub log : Board → List Call → List Done
+log b [] = []
+log b (c ∷ cs) = done b c ∷ log (outcome b c .next) cs
+
+-- ---- what was written, read from the bytes
+
+-- Where the first message of some bytes ends, if its content has one length only, as all that a board writes.
+abbrev pub firstEnd : List ℕ → ℕ
+firstEnd s = contentAt (mtiIn s) + meaningOf (mtiIn s) .least
+
+abbrev pub readOut : Reading → List Message
+readOut (Read m) = m ∷ []
+readOut (Refused n) = []
+
+-- At most n messages, one after another.
+unfoldable pub messagesUpTo : ℕ → List ℕ → List Message
+messagesUpTo zero s = []
+messagesUpTo (suc n) s = cond (eqb (length s) 0) [] (readOut (readOf (take (firstEnd s) s)) ++ messagesUpTo n (drop (firstEnd s) s))
+
+abbrev pub messagesIn : List ℕ → List Message
+messagesIn s = messagesUpTo (length s) s
+
+abbrev pub ofEvent : ℕ → Field → Bool
+ofEvent e (Present x) = eqb x e
+ofEvent e Absent = false
+
+-- A message of a kind for an event was written.
+abbrev pub wrote : Kind → ℕ → Done → Bool
+wrote k e d = any (λ m. sameKind k (kindOf (m .mti)) && ofEvent e (m .event)) (messagesIn (d .bytes))
+
+-- ---- demand 2's rule
+
+-- A new node: not Initialized and with no Advertised slot. Event IDs are 64-bit numbers.
+pub record New (b : Board) : Type 0 where
+  pub fresh : b .node .state ≡ notInitialized
+  pub unmarked : (i : ℕ) → markOf (b .slots) i ≡ unadvertised
+  pub fit : (i : ℕ) → eventOf (b .slots) i < 2 ^ 64
+
+abbrev pub isInitialise : Call → Bool
+isInitialise (initialised out) = true
+isInitialise (announced slot out) = false
+isInitialise (produced slot out) = false
+isInitialise (statusSet slot status) = false
+isInitialise (received bytes out) = false
+
+-- An accepted initialisation.
+abbrev pub restarts : Done → Bool
+restarts d = isInitialise (d .call) && eqb (d .refusal) 0
+
+-- A Producer Identified message for the event was written, and no initialisation was accepted after it.
+unfoldable pub IdentifiedSince : ℕ → List Done → Type 0
+IdentifiedSince e h = Since (λ _ d. wrote ProducerIdentified e d ≡ true) (λ d. restarts d ≡ true) h

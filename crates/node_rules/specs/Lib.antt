@@ -1,0 +1,5 @@
+pub mod Boards
+pub mod Sending
+pub mod Calls
+pub mod Histories
+pub mod Replies
