@@ -2,7 +2,7 @@
 use Prim.Native.Nat.{ℕ, zero, suc, _≤_, _<_}
 use mathlib.Core.Path.{_≡_, refl, ap, _∙_}
 use mathlib.Core.Logic.{⊎-elim}
-use mathlib.Core.Bool.{Bool, true, false, not}
+use mathlib.Core.Bool.{Bool, true, false, not, _||_}
 use native.Mathlib.Nat.{eq-or-lt-of-le, le-of-suc-le-suc, not-suc-le-zero}
 use native.Mathlib.Omega.{arith}
 use borrow.Author.Tests.{eqb-true, ltb-false, not-false, leb-true, leb-false}
@@ -12,7 +12,7 @@ use Rattle.range.specs.Range.{hasNumber}
 use Rattle.sets.specs.Sets.{anyBelow}
 use Rattle.message.proofs.Writings.{neither}
 use Rattle.node_rules.specs.Boards.{Board, count, roleOf, statusOf, markOf, badLengths, badRecord, badSlot, badSlots, outOfBounds}
-use Rattle.node_rules.proofs.Marking.{past-end}
+use Rattle.node_rules.proofs.Each.{past-end}
 
 pub record InBounds (b : Board) : Type 0 where
   pub events : length (b .slots .events) ≡ count (b .slots)
@@ -22,21 +22,30 @@ pub record InBounds (b : Board) : Type 0 where
   pub automatic : hasNumber (b .node .automatic) ≡ true
   pub slots : badSlots (b .node .state) (b .slots) ≡ false
 
+-- Four lists of one length, of at most 64.
+pub lengths-good : (r e s m : ℕ) → badLengths r e s m ≡ false → (e ≡ r) × (s ≡ r) × (m ≡ r) × (r ≤ 64)
+lengths-good r e s m g =
+    let h = neither (not (eqb e r)) (not (eqb s r) || (not (eqb m r) || ltb 64 r)) g in
+    let k = neither (not (eqb s r)) (not (eqb m r) || ltb 64 r) (h .1) in
+    let v = neither (not (eqb m r)) (ltb 64 r) (k .1) in (
+      eqb-true e r (not-false (eqb e r) (h .0)),
+      eqb-true s r (not-false (eqb s r) (k .0)),
+      eqb-true m r (not-false (eqb m r) (v .0)),
+      ltb-false 64 r (v .1),
+    )
+
 pub in-bounds : (b : Board) → outOfBounds b ≡ false → InBounds b
 unfolding outOfBounds
 in-bounds b h =
     let s = b .slots in
-    let n = count s in
-    let lengths = neither (badLengths n (length (s .events)) (length (s .statuses)) (length (s .marks))) _ h in
+    let lengths = neither (badLengths (count s) (length (s .events)) (length (s .statuses)) (length (s .marks))) _ h in
     let rest = neither (badRecord (b .node)) (badSlots (b .node .state) s) (lengths .1) in
-    let e = neither (not (eqb (length (s .events)) n)) _ (lengths .0) in
-    let t = neither (not (eqb (length (s .statuses)) n)) _ (e .1) in
-    let m = neither (not (eqb (length (s .marks)) n)) (ltb 64 n) (t .1) in
+    let l = lengths-good (count s) (length (s .events)) (length (s .statuses)) (length (s .marks)) (lengths .0) in
     record {
-      events = eqb-true (length (s .events)) n (not-false _ (e .0));
-      statuses = eqb-true (length (s .statuses)) n (not-false _ (t .0));
-      marks = eqb-true (length (s .marks)) n (not-false _ (m .0));
-      few = ltb-false 64 n (m .1);
+      events = l .0;
+      statuses = l .1;
+      marks = l .2;
+      few = l .3;
       automatic = not-false _ (neither (ltb 1 (b .node .state)) (not (hasNumber (b .node .automatic))) (rest .0) .1);
       slots = rest .1;
     }

@@ -21,7 +21,8 @@ use Rattle.node_rules.specs.Sending.{report, identified, identifying, ad
 use Rattle.node_rules.specs.Calls.{Outcome, accepting, refusing, noMatch, identifyingAll, withStatus}
 use Rattle.node_rules.specs.Histories.{Call, outcome, doneBy, done, Done, after, log, messagesIn, ofEvent, wrote, New, isInitialise, restarts, IdentifiedSince}
 use Rattle.node_rules.proofs.Pieces.{producer-kind, no-report-kind}
-use Rattle.node_rules.proofs.Marking.{like, like-same, Kept, each-marked, advertising-marks, advertising-keeps}
+use Rattle.node_rules.proofs.Each.{each-marked}
+use Rattle.node_rules.proofs.Marking.{like, like-same, Kept, advertising-marks, advertising-keeps}
 use Rattle.node_rules.proofs.Steps.{Happened, happened, written-read}
 use Rattle.node_rules.proofs.Steps.Happened.{refused, restarts as restarting, identifies, reports, sets}
 

@@ -1,4 +1,5 @@
 pub mod Pieces
+pub mod Each
 pub mod Marking
 pub mod Steps
 pub mod Demand2

@@ -1,58 +1,17 @@
 -- Which slots are marked after some have been identified.
-use Prim.Native.Nat.{ℕ, zero, suc, _+_, _≤_, _<_}
-use mathlib.Core.Path.{_≡_, refl, sym, ap, _∙_}
+use Prim.Native.Nat.{ℕ}
+use mathlib.Core.Path.{_≡_, refl, ap, _∙_}
 use mathlib.Core.Logic.{_⊎_, inl, inr, ⊎-elim}
 use mathlib.Core.Bool.{Bool, true, false, cond, _||_, or-true}
-use mathlib.Core.List.{List, [], _∷_, _++_}
-use native.Mathlib.Nat.{le-of-suc-le-suc, not-suc-le-zero, eq-or-lt-of-le}
-use native.Mathlib.Numerals.{add-one}
-use native.Mathlib.Omega.{arith}
-use borrow.Author.Tests.{eqb-true, leb-true, leb-false}
-use lib.Dec.{eqb, leb}
-use lib.ListN.{length, getD, length-append}
+use mathlib.Core.List.{List, [], _∷_}
+use borrow.Author.Tests.{eqb-true}
+use lib.Dec.{eqb}
+use lib.ListN.{length}
 use Rattle.range.proofs.Laws.{both}
 use Rattle.sets.specs.Sets.{any}
-use Rattle.node_rules.specs.Boards.{Slots, advertised, roleOf, eventOf, markOf, hasAt, each, advertise}
+use Rattle.node_rules.specs.Boards.{Slots, advertised, roleOf, eventOf, markOf, hasAt, advertise}
 use Rattle.node_rules.specs.Sending.{advertising}
-
--- ---- a number for each slot
-
-pub each-length : (n : ℕ) (f : ℕ → ℕ) → length (each n f) ≡ n
-unfolding each
-each-length zero f = refl
-each-length (suc n) f = length-append (each n f) (f n ∷ []) ∙ ap (λ (k : ℕ). k + 1) (each-length n f) ∙ add-one n
-
-before-end : (xs : List ℕ) (y i : ℕ) → i < length xs → getD (xs ++ (y ∷ [])) i 0 ≡ getD xs i 0
-before-end [] y i h = absurd (not-suc-le-zero h)
-before-end (x ∷ xs) y zero h = refl
-before-end (x ∷ xs) y (suc i) h = before-end xs y i (le-of-suc-le-suc h)
-
-at-end : (xs : List ℕ) (y i : ℕ) → i ≡ length xs → getD (xs ++ (y ∷ [])) i 0 ≡ y
-at-end [] y i h = ap (λ (k : ℕ). getD (y ∷ []) k 0) h
-at-end (x ∷ xs) y i h = ap (λ (k : ℕ). getD (x ∷ (xs ++ (y ∷ []))) k 0) h ∙ at-end xs y (length xs) refl
-
-pub each-at : (n : ℕ) (f : ℕ → ℕ) (i : ℕ) → i < n → getD (each n f) i 0 ≡ f i
-unfolding each
-each-at zero f i h = absurd (not-suc-le-zero h)
-each-at (suc n) f i h =
-    ⊎-elim (λ e. at-end (each n f) (f n) i (e ∙ sym (each-length n f)) ∙ ap f (sym e))
-    (λ l. before-end (each n f) (f n) i (omega (arith, l, each-length n f)) ∙ each-at n f i l)
-    (eq-or-lt-of-le (le-of-suc-le-suc h))
-
-pub past-end : (xs : List ℕ) (i : ℕ) → length xs ≤ i → getD xs i 0 ≡ 0
-past-end [] i h = refl
-past-end (x ∷ xs) zero h = absurd (not-suc-le-zero h)
-past-end (x ∷ xs) (suc i) h = past-end xs i (le-of-suc-le-suc h)
-
--- A slot that is marked, by a list made for each slot, is so by its own number.
-pub each-marked : (n : ℕ) (f : ℕ → ℕ) (i : ℕ) → getD (each n f) i 0 ≡ advertised → f i ≡ advertised
-each-marked n f i h = go (leb n i) refl
-  where
-    go : (t : Bool) → leb n i ≡ t → f i ≡ advertised
-    go true e =
-        let none = sym h ∙ past-end (each n f) i (omega (arith, leb-true n i e, each-length n f)) in
-        absurd (omega (arith, none))
-    go false e = sym (each-at n f i (leb-false n i e)) ∙ h
+use Rattle.node_rules.proofs.Each.{each-marked}
 
 -- ---- advertising
 

@@ -118,12 +118,15 @@ chosen-few (suc n) test = go (test n) (chosen-few n test)
     go true h = omega (arith, h, length-append (chosen n test) (n ∷ []))
     go false h = omega (arith, h, length-append (chosen n test) [])
 
+pub identified-length : (b : Board) (i : ℕ) → length (wholeBytes (identified b i)) ≡ 16
+identified-length b i =
+    let p = identified-plain (roleOf (b .slots) i) (statusOf (b .slots) i) in
+    ap length (plain-whole p (b .node .id) (eventOf (b .slots) i)) ∙ plain-length p (b .node .id) (eventOf (b .slots) i)
+
 pub identifying-size : (b : Board) (is : List ℕ) → size (identifying b is) ≡ length is * 16
 identifying-size b [] = refl
 identifying-size b (i ∷ is) =
-    let p = identified-plain (roleOf (b .slots) i) (statusOf (b .slots) i) in
-    let one = ap length (plain-whole _ (b .node .id) (eventOf (b .slots) i) p) ∙ plain-length _ (b .node .id) (eventOf (b .slots) i) p in
-    omega (arith, one, identifying-size b is, length-append (wholeBytes (identified b i)) (allBytes (identifying b is)))
+    omega (arith, identified-length b i, identifying-size b is, length-append (wholeBytes (identified b i)) (allBytes (identifying b is)))
 
 pub replies-fit : (b : Board) → outOfBounds b ≡ false → (q : Inquiry) → size (identifying b (answering b q)) ≤ 1024
 unfolding answering

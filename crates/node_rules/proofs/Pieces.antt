@@ -98,7 +98,7 @@ readable m small below free good ends long =
     }
 
 -- A Plain MTI's message: 16 bytes, and no content.
-module _ (k id e : ℕ) (p : Plain k) where
+module _ {k : ℕ} (p : Plain k) (id e : ℕ) where
   abbrev m : Message
   m = withEvent k id e
 

@@ -81,13 +81,13 @@ happened b (received bytes out) =
 all-identified : (b : Board) (js : List ℕ) → badNode (b .node .id) ≡ false → ((i : ℕ) → eventOf (b .slots) i < 2 ^ 64) → AllReadable (identifying b js)
 all-identified b [] h fit = none
 all-identified b (j ∷ js) h fit =
-    also (plain-readable _ (b .node .id) (eventOf (b .slots) j) (identified-plain _ _) h (fit j)) (all-identified b js h fit)
+    also (plain-readable (identified-plain _ _) (b .node .id) (eventOf (b .slots) j) h (fit j)) (all-identified b js h fit)
 
 all-readable : {b : Board} {c : Call} {o : Outcome} → ((i : ℕ) → eventOf (b .slots) i < 2 ^ 64) → Happened b c o → AllReadable (o .sent)
 all-readable fit (refused n h) = none
 all-readable {b = b} fit (restarts i h) = also (complete-readable (b .node .id) h) none
 all-readable {b = b} fit (identifies js matches i h s) = all-identified b js h fit
-all-readable {b = b} fit (reports i f h s r m) = also (plain-readable 0x05B4 (b .node .id) (eventOf (b .slots) i) report-plain h (fit i)) none
+all-readable {b = b} fit (reports i f h s r m) = also (plain-readable report-plain (b .node .id) (eventOf (b .slots) i) h (fit i)) none
 all-readable fit (sets i status f) = none
 
 pub written-read : (b : Board) (c : Call) {o : Outcome} → ((i : ℕ) → eventOf (b .slots) i < 2 ^ 64) → Happened b c o → messagesIn (doneBy c o .bytes) ≡ o .sent

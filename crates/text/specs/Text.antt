@@ -1,17 +1,29 @@
 -- Text that is put into a lent buffer, and numbers in text (document 01, "Trial program": what a line shows).
-use Prim.Native.Nat.{ℕ, zero, suc, _+_, _/_, _%_, _^_}
+use Prim.Native.Nat.{ℕ, zero, suc, _+_, _-_, _/_, _%_, _^_}
 use mathlib.Core.Bool.{cond, _||_}
 use mathlib.Core.List.{List, [], _∷_, _++_}
 use lib.Dec.{eqb, leb, ltb}
 use lib.ListN.{length, take, drop}
+use Rattle.text.specs.declared.Place.{Place}
 
--- The buffer with a piece put in from a place on, as much of it as fits.
-unfoldable pub filled : ℕ → List ℕ → List ℕ → List ℕ
-filled at piece out = take (length out) (take at out ++ (piece ++ drop (at + length piece) out))
+-- A buffer with a piece put in from a place on, as much of it as fits.
+unfoldable pub filledAt : ℕ → List ℕ → List ℕ → List ℕ
+filledAt at piece out = take (length out) (take at out ++ (piece ++ drop (at + length piece) out))
 
 -- The place after the piece, at most the buffer's end.
-unfoldable pub endOf : ℕ → List ℕ → List ℕ → ℕ
-endOf at piece out = cond (leb (at + length piece) (length out)) (at + length piece) (length out)
+unfoldable pub endAt : ℕ → List ℕ → List ℕ → ℕ
+endAt at piece out = cond (leb (at + length piece) (length out)) (at + length piece) (length out)
+
+-- The same where the first bytes of the text are left out.
+unfoldable pub filled : Place → List ℕ → List ℕ → List ℕ
+filled p piece out = filledAt (p .at) (drop (p .skip) piece) out
+
+unfoldable pub endOf : Place → List ℕ → List ℕ → Place
+endOf p piece out = record { skip = p .skip - length piece; at = endAt (p .at) (drop (p .skip) piece) out }
+
+-- A place within the buffer.
+abbrev pub within : Place → ℕ → Place
+within p room = record { skip = p .skip; at = cond (leb (p .at) room) (p .at) room }
 
 -- The digits 0 to 9 stand from 48 on, the letters A to F from 65 on.
 abbrev pub digit : ℕ → ℕ

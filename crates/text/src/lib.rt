@@ -1,13 +1,17 @@
 // Text put into a lent buffer from a place on, as much of it as fits; each call answers the place after it.
+// A place also says how many bytes of the text are left out first, so that a long text can be had in parts.
 ghost use mathlib.Core.Path.{_≡_};
-ghost use mathlib.Core.Bool.{cond};
 ghost use mathlib.Core.List.{[], _∷_};
 ghost use Prim.Native.Nat.{_<_};
-ghost use lib.Dec.{leb};
-ghost use Rattle.text.specs.Text.{filled, endOf, hexDigit, decimal, hexOf};
+ghost use Rattle.text.specs.Text.{filled, endOf, within, hexDigit, decimal, hexOf};
+
+pub struct Place {
+    pub skip: usize,
+    pub at: usize,
+}
 
 // The bytes of a piece.
-pub fn put(piece: &[u8], at: usize, out: &mut [u8]) -> usize
+pub fn put(piece: &[u8], at: Place, out: &mut [u8]) -> Place
     ensures { λ r. ⌜ r ≡ endOf at (now (piece .entry)) (now (out .entry)) ⌝ }
     ensures { λ _. ⌜ now (out .exit) ≡ filled at (now (piece .entry)) (now (out .entry)) ⌝ }
 {
@@ -21,7 +25,7 @@ pub fn put(piece: &[u8], at: usize, out: &mut [u8]) -> usize
 }
 
 // A number in decimal, without leading zeros.
-pub fn put_decimal(n: u64, at: usize, out: &mut [u8]) -> usize
+pub fn put_decimal(n: u64, at: Place, out: &mut [u8]) -> Place
     ensures { λ r. ⌜ r ≡ endOf at (decimal n) (now (out .entry)) ⌝ }
     ensures { λ _. ⌜ now (out .exit) ≡ filled at (decimal n) (now (out .entry)) ⌝ }
 {
@@ -39,7 +43,7 @@ pub fn put_decimal(n: u64, at: usize, out: &mut [u8]) -> usize
 }
 
 // Bytes in upper-case hexadecimal.
-pub fn put_hex(bytes: &[u8], at: usize, out: &mut [u8]) -> usize
+pub fn put_hex(bytes: &[u8], at: Place, out: &mut [u8]) -> Place
     ensures { λ r. ⌜ r ≡ endOf at (hexOf (now (bytes .entry))) (now (out .entry)) ⌝ }
     ensures { λ _. ⌜ now (out .exit) ≡ filled at (hexOf (now (bytes .entry))) (now (out .entry)) ⌝ }
 {
@@ -54,21 +58,36 @@ pub fn put_hex(bytes: &[u8], at: usize, out: &mut [u8]) -> usize
     next
 }
 
-fn start(at: usize, room: usize) -> usize
-    ensures { λ r. ⌜ r ≡ cond (leb at room) at room ⌝ }
+fn start(p: Place, room: usize) -> Place
+    ensures { λ r. ⌜ r ≡ within p room ⌝ }
 {
-    if at <= room { at } else { room }
+    let at = p.at;
+    if at <= room {
+        return p;
+    }
+    Place {
+        skip: p.skip,
+        at: room,
+    }
 }
 
-fn put_byte(b: u8, at: usize, out: &mut [u8]) -> usize
-    ensures { λ r. ⌜ r ≡ endOf at (b ∷ []) (now (out .entry)) ⌝ }
-    ensures { λ _. ⌜ now (out .exit) ≡ filled at (b ∷ []) (now (out .entry)) ⌝ }
+fn put_byte(b: u8, p: Place, out: &mut [u8]) -> Place
+    ensures { λ r. ⌜ r ≡ endOf p (b ∷ []) (now (out .entry)) ⌝ }
+    ensures { λ _. ⌜ now (out .exit) ≡ filled p (b ∷ []) (now (out .entry)) ⌝ }
 {
+    let skip = p.skip;
+    let at = p.at;
+    if 0 < skip {
+        return start(Place { skip: skip - 1, at }, out.len());
+    }
     if at < out.len() {
         out[at] = b;
-        return at + 1;
+        return Place { skip, at: at + 1 };
     }
-    out.len()
+    Place {
+        skip,
+        at: out.len(),
+    }
 }
 
 fn hex_digit(d: u8) -> u8

@@ -4,21 +4,21 @@ use mathlib.Core.List.{[], _∷_}
 use native.Mathlib.Omega.{arith}
 use borrow.Author.Needs.{needs}
 use lib.ListN.{length, getD, drop, drop-of-length-le}
-use Rattle.text.proofs.Laws.{Remains, remains-all, remains-next, remains-none, remains-length, rest-cons}
+use Rattle.text.proofs.Laws.{Remains, remains-start, from-within, remains-next, remains-none, remains-length, rest-cons}
 use Rattle.text.proofs.put.Statement.{statement}
 use Rattle.text.proofs.put.Tie as tie
 
 abbrev Inv-loop : tie.InvT-loop
-Inv-loop piece at out₀ next₀ i₀ out next i = (i ≤ length piece) × Remains at piece out₀ next (drop i piece) out
+Inv-loop piece out₀ next₀ i₀ out next i = (i ≤ length piece) × Remains next₀ piece out₀ next (drop i piece) out
 
 abbrev μ-loop : tie.MeasureT-loop
-μ-loop piece at out₀ next₀ i₀ out next i = length piece - i
+μ-loop piece out₀ next₀ i₀ out next i = length piece - i
 
 start-requires : tie.Need-start-requires Inv-loop μ-loop
 start-requires c κs = search needs
 
 loop-holds : tie.Need-loop-holds Inv-loop μ-loop
-loop-holds c = let a = c .before .before .before .args in (omega arith, remains-all (a .at) (a .piece .now) (a .out .now) (c .start .ensures))
+loop-holds c = let a = c .before .before .before .args in (omega arith, remains-start (a .at) (a .piece .now) (a .out .now) (c .start .ensures))
 
 shared-slice-read-put-byte : tie.Need-shared-slice-read-put-byte Inv-loop μ-loop
 shared-slice-read-put-byte c = omega arith
@@ -45,8 +45,10 @@ same-length c = remains-length (c .before .loop .inv .1)
 
 returns : tie.Need-returns Inv-loop μ-loop
 returns c =
+    let a = c .before .before .before .before .before .args in
     let l = c .before .loop in
-    remains-none (rw (drop-of-length-le (c .before .before .before .before .before .args .piece .now) {i = l .i} (c .loop-test .left)) at (l .inv .1))
+    let rest = rw (drop-of-length-le (a .piece .now) {i = l .i} (c .loop-test .left)) at (l .inv .1) in
+    from-within (a .at) (a .piece .now) (a .out .now) (c .before .before .start .ensures) (remains-none rest)
 
 pub put-spec : {M : Type 1} → statement M
 put-spec =

@@ -2,21 +2,21 @@
 use native.Mathlib.Omega.{arith}
 use borrow.Author.Needs.{needs}
 use Rattle.text.specs.Text.{decimal}
-use Rattle.text.proofs.Laws.{Digits, remains-all, remains-last, remains-length, digits-all, digits-skip, digits-next, digits-last}
+use Rattle.text.proofs.Laws.{Digits, remains-start, from-within, remains-last, remains-length, digits-all, digits-skip, digits-next, digits-last}
 use Rattle.text.proofs.put_decimal.Statement.{statement}
 use Rattle.text.proofs.put_decimal.Tie as tie
 
 abbrev Inv-loop : tie.InvT-loop
-Inv-loop n at out₀ next₀ place₀ out next place = Digits at out₀ n next place out
+Inv-loop n out₀ next₀ place₀ out next place = Digits next₀ out₀ n next place out
 
 abbrev μ-loop : tie.MeasureT-loop
-μ-loop n at out₀ next₀ place₀ out next place = place
+μ-loop n out₀ next₀ place₀ out next place = place
 
 start-requires : tie.Need-start-requires Inv-loop μ-loop
 start-requires c κs = search needs
 
 loop-holds : tie.Need-loop-holds Inv-loop μ-loop
-loop-holds c = let a = c .before .before .args in digits-all (remains-all (a .at) (decimal (a .n)) (a .out .now) (c .start .ensures))
+loop-holds c = let a = c .before .before .args in digits-all (remains-start (a .at) (decimal (a .n)) (a .out .now) (c .start .ensures))
 
 loop-less : tie.Need-loop-less Inv-loop μ-loop
 loop-less c = omega arith
@@ -58,8 +58,10 @@ same-length c = omega (arith, remains-length (c .before .before .before .before 
 
 returns : tie.Need-returns Inv-loop μ-loop
 returns c =
+    let a = c .before .before .before .before .before .before .before .before .args in
     let put = c .before .before .put-byte2 in
-    remains-last (digits-last (c .before .before .before .before .before .loop .inv) (c .before .before .before .before .loop-test .left)) (put .ensures .0) (put .ensures .1)
+    let last = digits-last (c .before .before .before .before .before .loop .inv) (c .before .before .before .before .loop-test .left) in
+    from-within (a .at) (decimal (a .n)) (a .out .now) (c .before .before .before .before .before .before .start .ensures) (remains-last last (put .ensures .0) (put .ensures .1))
 
 pub put-decimal-spec : {M : Type 1} → statement M
 put-decimal-spec =

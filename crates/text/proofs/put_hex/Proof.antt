@@ -4,21 +4,21 @@ use native.Mathlib.Omega.{arith}
 use borrow.Author.Needs.{needs}
 use lib.ListN.{length, drop, drop-of-length-le}
 use Rattle.text.specs.Text.{hexOf}
-use Rattle.text.proofs.Laws.{Remains, remains-all, remains-none, remains-length, hex-next}
+use Rattle.text.proofs.Laws.{Remains, remains-start, from-within, remains-none, remains-length, hex-next}
 use Rattle.text.proofs.put_hex.Statement.{statement}
 use Rattle.text.proofs.put_hex.Tie as tie
 
 abbrev Inv-loop : tie.InvT-loop
-Inv-loop bytes at out₀ next₀ i₀ out next i = (i ≤ length bytes) × Remains at (hexOf bytes) out₀ next (hexOf (drop i bytes)) out
+Inv-loop bytes out₀ next₀ i₀ out next i = (i ≤ length bytes) × Remains next₀ (hexOf bytes) out₀ next (hexOf (drop i bytes)) out
 
 abbrev μ-loop : tie.MeasureT-loop
-μ-loop bytes at out₀ next₀ i₀ out next i = length bytes - i
+μ-loop bytes out₀ next₀ i₀ out next i = length bytes - i
 
 start-requires : tie.Need-start-requires Inv-loop μ-loop
 start-requires c κs = search needs
 
 loop-holds : tie.Need-loop-holds Inv-loop μ-loop
-loop-holds c = let a = c .before .before .before .args in (omega arith, remains-all (a .at) (hexOf (a .bytes .now)) (a .out .now) (c .start .ensures))
+loop-holds c = let a = c .before .before .before .args in (omega arith, remains-start (a .at) (hexOf (a .bytes .now)) (a .out .now) (c .start .ensures))
 
 shared-slice-read-b : tie.Need-shared-slice-read-b Inv-loop μ-loop
 shared-slice-read-b c = omega arith
@@ -56,8 +56,10 @@ same-length c = remains-length (c .before .loop .inv .1)
 
 returns : tie.Need-returns Inv-loop μ-loop
 returns c =
+    let a = c .before .before .before .before .before .args in
     let l = c .before .loop in
-    remains-none (rw (drop-of-length-le (c .before .before .before .before .before .args .bytes .now) {i = l .i} (c .loop-test .left)) at (l .inv .1))
+    let rest = rw (drop-of-length-le (a .bytes .now) {i = l .i} (c .loop-test .left)) at (l .inv .1) in
+    from-within (a .at) (hexOf (a .bytes .now)) (a .out .now) (c .before .before .start .ensures) (remains-none rest)
 
 pub put-hex-spec : {M : Type 1} → statement M
 put-hex-spec =

@@ -1,0 +1,14 @@
+pub mod Limits
+pub mod Below
+pub mod Bits
+pub mod Blocks
+pub mod Choosing
+pub mod Marks
+pub mod Matching
+pub mod Replying
+pub mod Written
+pub mod Calling
+pub mod Initialising
+pub mod Announcing
+pub mod Setting
+pub mod Receiving
