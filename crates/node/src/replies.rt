@@ -148,7 +148,7 @@ pub(crate) fn identify(
     let event = events[slot];
     let mti = writing::identified_mti(role, statuses[slot]);
     writing::put(mti, node.id, event, at, out);
-    slots::advertise(roles, events, role, event, marks);
+    slots::advertise(roles, events, slot, marks);
 }
 
 // Writes the replies of the slots that answer, one after another.

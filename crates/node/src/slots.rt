@@ -2,7 +2,7 @@
 ghost use mathlib.Core.Path.{_≡_};
 ghost use mathlib.Core.Bool.{true, cond};
 ghost use Prim.Native.Nat.{_+_, _^_, _≤_, _<_};
-ghost use lib.ListN.{length};
+ghost use lib.ListN.{length, getD};
 ghost use Rattle.range.specs.Range.{isBlock, inBlock};
 ghost use Rattle.sets.specs.Sets.{setOf};
 ghost use Rattle.node_rules.specs.Boards.{advertised, hasAt, advertisedMarks, restartedMarks};
@@ -34,14 +34,17 @@ pub(crate) fn in_block(block: Block, e: u64) -> bool
     }
 }
 
-// Every slot of a role and Event ID becomes Advertised.
-pub(crate) fn advertise(roles: &[u8], events: &[u64], role: u8, event: u64, marks: &mut [u8])
-    requires { ⌜ (length (now roles) ≡ length (now marks)) × (length (now events) ≡ length (now marks)) ⌝ }
-    ensures { λ _. ⌜ now (marks .exit) ≡ advertisedMarks (now (roles .entry)) (now (events .entry)) role event (now (marks .entry)) ⌝ }
+// Every slot of the role and Event ID of a slot becomes Advertised.
+pub(crate) fn advertise(roles: &[u8], events: &[u64], slot: usize, marks: &mut [u8])
+    requires { ⌜ (slot < length (now marks)) × (length (now roles) ≡ length (now marks)) × (length (now events) ≡ length (now marks)) ⌝ }
+    ensures { λ _. ⌜ now (marks .exit) ≡ advertisedMarks (now (roles .entry)) (now (events .entry)) (getD (now (roles .entry)) slot 0) (getD (now (events .entry)) slot 0) (now (marks .entry)) ⌝ }
 {
+    let role = roles[slot];
+    let event = events[slot];
     let mut i = 0;
     while i < marks.len() {
-        let mark = marked(has(roles, events, role, event, i), marks[i]);
+        let like = has(roles, events, role, event, i);
+        let mark = marked(like, marks[i]);
         marks[i] = mark;
         i += 1;
     }
