@@ -5,11 +5,10 @@ use mathlib.Core.Bool.{Bool, true, false, not, _&&_, _||_, and-true, and-false, 
 use mathlib.Core.List.{List}
 use borrow.Author.Tests.{leb-false, not-false}
 use lib.Dec.{eqb, leb}
-use Rattle.range.specs.declared.Block.{Block}
 use Rattle.range.specs.declared.Answer.{Answer}
 use Rattle.range.specs.Range.{isBlock, inBlock}
-use Rattle.range.specs.Answer.{Told, yesOrNo, holdsTold}
-use Rattle.range.proofs.Laws.{holds-told}
+use Rattle.range.specs.Answer.{yesOrNo, holdsTold}
+use Rattle.range.proofs.Laws.{answer-says}
 use Rattle.sets.specs.Sets.{any, setOf, inSet}
 use Rattle.message.specs.Messages.{badNode}
 use Rattle.message.proofs.Writings.{neither}
@@ -31,9 +30,6 @@ block-good l e =
     not-false (isBlock (l .block)) (neither (badNode (l .node)) (not (isBlock (l .block))) rest .1)
 
 -- ---- what the block's answer says
-
-pub answer-says : (b : Block) (e : ℕ) (r s : Answer) → isBlock b ≡ true → yesOrNo r ≡ holdsTold b e → r ≡ s → inBlock b e ≡ yesOrNo s .value
-answer-says b e r s g h k = sym (ap (λ (t : Told Bool). t .value) (h ∙ holds-told b e g)) ∙ ap (λ (x : Answer). yesOrNo x .value) k
 
 pub line-says : (l : Line) (e : ℕ) (r s : Answer) → badAt 8 l ≡ false → yesOrNo r ≡ holdsTold (l .block) e → r ≡ s → inBlock (l .block) e ≡ yesOrNo s .value
 line-says l e r s g = answer-says (l .block) e r s (block-good l g)

@@ -1,7 +1,5 @@
 pub mod Limits
 pub mod Below
-pub mod Bits
-pub mod Blocks
 pub mod Choosing
 pub mod Marks
 pub mod Matching

@@ -200,22 +200,12 @@ pub(crate) fn matches(node: Node, m: Message, roles: &[u8], events: &[u64]) -> u
     }
 }
 
+// The two MTIs of an event report.
 fn reports(mti: u16) -> bool
     ensures { λ yes. ⌜ yes ≡ isReport (kindOf mti) ⌝ }
 {
-    let meaning = message::meaning_of(mti);
-    let kind = meaning.kind;
-    match kind {
-        Kind::EventReport => true,
-        Kind::InitializationComplete => false,
-        Kind::IdentifyConsumer => false,
-        Kind::IdentifyProducer => false,
-        Kind::ConsumerIdentified => false,
-        Kind::ProducerIdentified => false,
-        Kind::ConsumerRangeIdentified => false,
-        Kind::ProducerRangeIdentified => false,
-        Kind::IdentifyEvents => false,
-        Kind::LearnEvent => false,
-        Kind::Other => false,
+    if mti == 0x05B4 {
+        return true;
     }
+    mti == 0x0F14
 }

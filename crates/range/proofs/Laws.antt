@@ -2,7 +2,7 @@
 use Prim.Native.Nat.{ℕ, zero, _+_, _-_, _*_, _/_, _%_, _^_, _≤_, _<_}
 use mathlib.Core.Path.{_≡_, refl, sym, ap, ap₂, _∙_}
 use mathlib.Core.Logic.{_↔_}
-use mathlib.Core.Bool.{Bool, true, false, _&&_, not, and-false, false≢true}
+use mathlib.Core.Bool.{Bool, true, false, cond, _&&_, not, and-false, false≢true}
 use native.Mathlib.Nat.{eq-of-mul-eq-mul-right, mod-lt, mod-eq-of-lt, mod-one, mul-mod-left, div-add-mod', div-eq-of-lt-le}
 use native.Mathlib.Omega.{arith}
 use borrow.Author.Tests.{not-true, not-false, eqb-true, eqb-false, eq-eqb, ne-eqb, leb-true, le-leb, lt-leb}
@@ -10,7 +10,9 @@ use lib.Dec.{leb, eqb}
 use lib.Pow.{pow-pos}
 use Rattle.range.specs.declared.Block.{Block}
 use Rattle.range.specs.Range.{bit, run, isBlock, inBlock, last, single, blockOf, hasNumber, numberOf, sameBlock}
-use Rattle.range.specs.Answer.{told, refused, numberTold, holdsTold, sameTold}
+use Rattle.range.specs.declared.Answer.{Answer}
+use Rattle.range.specs.declared.RangeNumber.{RangeNumber}
+use Rattle.range.specs.Answer.{Told, told, refused, yesOrNo, rangeNumber, numberTold, holdsTold, sameTold}
 use Rattle.range.proofs.Runs.{run-of}
 
 -- ---- tests
@@ -183,3 +185,17 @@ same-differ a b h = go (sameBlock a b) refl
     go : (t : Bool) → sameBlock a b ≡ t → sameBlock a b ≡ false
     go true e = absurd (h (same-block a b .0 e))
     go false e = e
+
+-- ---- what the code's answers say
+
+pub answer-says : (b : Block) (e : ℕ) (r s : Answer) → isBlock b ≡ true → yesOrNo r ≡ holdsTold b e → r ≡ s → inBlock b e ≡ yesOrNo s .value
+answer-says b e r s g h k = sym (ap (λ (t : Told Bool). t .value) (h ∙ holds-told b e g)) ∙ ap (λ (x : Answer). yesOrNo x .value) k
+
+number-given : (t : Bool) (n : ℕ) → eqb (cond t (told n) (refused 14 0) .refusal) 0 ≡ t
+number-given true n = refl
+number-given false n = refl
+
+pub number-says : (b : Block) (r s : RangeNumber) → rangeNumber r ≡ numberTold b → r ≡ s → hasNumber b ≡ eqb (rangeNumber s .refusal) 0
+unfolding numberTold
+number-says b r s h k =
+    sym (number-given (hasNumber b) (numberOf b)) ∙ ap (λ (t : Told ℕ). eqb (t .refusal) 0) (sym h) ∙ ap (λ (x : RangeNumber). eqb (rangeNumber x .refusal) 0) k

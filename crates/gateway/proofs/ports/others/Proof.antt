@@ -5,7 +5,7 @@ use mathlib.Core.Bool.{not, _&&_}
 use native.Mathlib.Omega.{arith}
 use borrow.Author.Needs.{needs}
 use lib.Dec.{eqb, ltb}
-use Rattle.gateway.proofs.Bits.{next-port}
+use Rattle.sets.proofs.Bits.{next-bit}
 use Rattle.sets.specs.Sets.{setOf, inSet}
 use Rattle.sets.proofs.Sets.{set-below}
 use Rattle.gateway.proofs.ports.others.Statement.{statement}
@@ -44,7 +44,7 @@ loop-again : tie.Need-loop-again Inv-loop μ-loop
 loop-again c =
     let a = c .before .before .before .before .args in
     let l = c .before .before .before .loop in
-    (omega arith, c .put .ensures ∙ next-port (λ q. ltb q (a .ports) && (not (eqb q (a .port)) && inSet (a .set) q)) (l .p) (l .sent) (c .before .goes .result) (l .inv .1) (c .before .goes .ensures))
+    (omega arith, c .put .ensures ∙ next-bit (λ q. ltb q (a .ports) && (not (eqb q (a .port)) && inSet (a .set) q)) (l .p) (l .sent) (c .before .goes .result) (l .inv .1) (c .before .goes .ensures))
 
 returns : tie.Need-returns Inv-loop μ-loop
 returns c =

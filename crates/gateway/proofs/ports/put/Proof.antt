@@ -4,7 +4,7 @@ use mathlib.Core.Path.{sym, ap}
 use native.Mathlib.Omega.{arith}
 use borrow.Author.Needs.{needs}
 use native.Mathlib.Nat.{add-zero}
-use Rattle.gateway.proofs.Bits.{one-bit, bit-fits}
+use Rattle.sets.proofs.Bits.{one-bit, bit-fits}
 use Rattle.gateway.proofs.ports.put.Statement.{statement}
 use Rattle.gateway.proofs.ports.put.Tie as tie
 
@@ -16,12 +16,12 @@ shl-result : tie.Need-shl-result
 shl-result c = search needs
 
 add-result : tie.Need-add-result
-add-result c = let a = c .before .args in let bit = one-bit (a .p) (omega arith) in omega (arith, bit, bit-fits (a .set) (a .p) (omega arith) (omega arith))
+add-result c = let a = c .before .args in let bit = one-bit 8 (a .p) (omega arith) in omega (arith, bit, bit-fits 8 (a .set) (a .p) (omega arith) (omega arith))
 
 returns : tie.Need-returns
 returns c =
     let a = c .before .args in
-    rw (c .if1 .taken) (ap (λ (x : ℕ). a .set + x) (one-bit (a .p) (omega arith)))
+    rw (c .if1 .taken) (ap (λ (x : ℕ). a .set + x) (one-bit 8 (a .p) (omega arith)))
 
 returns-2 : tie.Need-returns-2
 returns-2 c = rw (c .if1 .left) (sym (add-zero (c .before .args .set)))

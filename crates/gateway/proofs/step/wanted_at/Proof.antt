@@ -3,7 +3,7 @@ use mathlib.Core.Path.{_∙_}
 use borrow.Author.Needs.{needs}
 use Rattle.range.specs.declared.Answer.the-variants.{Yes, No, NoBlock}
 use Rattle.gateway_rules.specs.State.{gateOf}
-use Rattle.gateway.proofs.Held.{answer-says}
+use Rattle.range.proofs.Laws.{answer-says}
 use Rattle.gateway.proofs.InBounds.{few-lines, lines-below-8, automatic-block}
 use Rattle.gateway.proofs.Wanting.{absent, automatic, by-lines}
 use Rattle.gateway.proofs.step.wanted_at.Statement.{statement}

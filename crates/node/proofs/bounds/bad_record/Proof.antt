@@ -4,7 +4,7 @@ use mathlib.Core.Bool.{not}
 use borrow.Author.Needs.{needs}
 use borrow.Author.Tests.{lt-ltb, le-ltb}
 use Rattle.range.specs.declared.RangeNumber.the-variants.{Number, NoNumber}
-use Rattle.node.proofs.Blocks.{number-says}
+use Rattle.range.proofs.Laws.{number-says}
 use Rattle.node.proofs.bounds.bad_record.Statement.{statement}
 use Rattle.node.proofs.bounds.bad_record.Tie as tie
 

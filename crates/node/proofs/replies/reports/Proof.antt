@@ -1,109 +1,23 @@
--- Only one kind is a report.
-use Prim.Native.Nat.{ℕ}
-use mathlib.Core.Path.{_≡_, sym, ap, _∙_}
-use borrow.Author.Needs.{needs}
-use Rattle.message.specs.declared.Kind.{Kind}
-use Rattle.message.specs.declared.Meaning.{Meaning}
-use Rattle.message.specs.Mti.{isReport, meaningOf}
+-- The two MTIs that the message table has for a report.
+use mathlib.Core.Path.{refl, sym, _∙_}
+use mathlib.Core.Bool.{or-false}
+use borrow.Author.Tests.{eq-eqb, ne-eqb}
+use Rattle.message.proofs.KindsOfMti.{kind-exactly, mtisOf}
+use Rattle.message.specs.declared.Kind.the-variants.{EventReport}
 use Rattle.node.proofs.replies.reports.Statement.{statement}
 use Rattle.node.proofs.replies.reports.Tie as tie
 
-told : {m : Meaning} {k : Kind} (mti : ℕ) → m .kind ≡ k → m ≡ meaningOf mti → isReport k ≡ isReport (meaningOf mti .kind)
-told mti e f = sym (ap isReport e) ∙ ap (λ (x : Meaning). isReport (x .kind)) f
-
-meaning-of-requires : tie.Need-meaning-of-requires
-meaning-of-requires c κs = search needs
-
-enum-told : tie.Need-enum-told
-enum-told c = search needs
-
-enum-told-2 : tie.Need-enum-told-2
-enum-told-2 c = search needs
-
-enum-told-3 : tie.Need-enum-told-3
-enum-told-3 c = search needs
-
-enum-told-4 : tie.Need-enum-told-4
-enum-told-4 c = search needs
-
-enum-told-5 : tie.Need-enum-told-5
-enum-told-5 c = search needs
-
-enum-told-6 : tie.Need-enum-told-6
-enum-told-6 c = search needs
-
-enum-told-7 : tie.Need-enum-told-7
-enum-told-7 c = search needs
-
-enum-told-8 : tie.Need-enum-told-8
-enum-told-8 c = search needs
-
-enum-told-9 : tie.Need-enum-told-9
-enum-told-9 c = search needs
-
-enum-told-10 : tie.Need-enum-told-10
-enum-told-10 c = search needs
-
-enum-told-11 : tie.Need-enum-told-11
-enum-told-11 c = search needs
-
 returns : tie.Need-returns
-returns c = told (c .before .before .before .args .mti) (c .enum-told .given .1) (c .before .before .meaning-of .ensures)
+unfolding mtisOf
+returns c =
+    let m = c .before .args .mti in
+    sym (kind-exactly EventReport refl m ∙ rw (eq-eqb m 0x05B4 (c .if1 .taken)))
 
 returns-2 : tie.Need-returns-2
-returns-2 c = told (c .before .before .before .args .mti) (c .enum-told2 .given .1) (c .before .before .meaning-of .ensures)
-
-returns-3 : tie.Need-returns-3
-returns-3 c = told (c .before .before .before .args .mti) (c .enum-told3 .given .1) (c .before .before .meaning-of .ensures)
-
-returns-4 : tie.Need-returns-4
-returns-4 c = told (c .before .before .before .args .mti) (c .enum-told4 .given .1) (c .before .before .meaning-of .ensures)
-
-returns-5 : tie.Need-returns-5
-returns-5 c = told (c .before .before .before .args .mti) (c .enum-told5 .given .1) (c .before .before .meaning-of .ensures)
-
-returns-6 : tie.Need-returns-6
-returns-6 c = told (c .before .before .before .args .mti) (c .enum-told6 .given .1) (c .before .before .meaning-of .ensures)
-
-returns-7 : tie.Need-returns-7
-returns-7 c = told (c .before .before .before .args .mti) (c .enum-told7 .given .1) (c .before .before .meaning-of .ensures)
-
-returns-8 : tie.Need-returns-8
-returns-8 c = told (c .before .before .before .args .mti) (c .enum-told8 .given .1) (c .before .before .meaning-of .ensures)
-
-returns-9 : tie.Need-returns-9
-returns-9 c = told (c .before .before .before .args .mti) (c .enum-told9 .given .1) (c .before .before .meaning-of .ensures)
-
-returns-10 : tie.Need-returns-10
-returns-10 c = told (c .before .before .before .args .mti) (c .enum-told10 .given .1) (c .before .before .meaning-of .ensures)
-
-returns-11 : tie.Need-returns-11
-returns-11 c = told (c .before .before .before .args .mti) (c .enum-told11 .given .1) (c .before .before .meaning-of .ensures)
+unfolding mtisOf
+returns-2 c =
+    let m = c .before .args .mti in
+    sym (kind-exactly EventReport refl m ∙ rw (ne-eqb m 0x05B4 (c .if1 .left)) (or-false _))
 
 pub reports-spec : {M : Type 1} → statement M
-reports-spec =
-    tie.close
-    (tie.spec
-    meaning-of-requires
-    enum-told
-    enum-told-2
-    enum-told-3
-    enum-told-4
-    enum-told-5
-    enum-told-6
-    enum-told-7
-    enum-told-8
-    enum-told-9
-    enum-told-10
-    enum-told-11
-    returns
-    returns-2
-    returns-3
-    returns-4
-    returns-5
-    returns-6
-    returns-7
-    returns-8
-    returns-9
-    returns-10
-    returns-11)
+reports-spec = tie.close (tie.spec returns returns-2)

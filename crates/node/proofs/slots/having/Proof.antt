@@ -6,7 +6,7 @@ use lib.ListN.{length}
 use Rattle.sets.specs.Sets.{setOf}
 use Rattle.sets.proofs.Sets.{set-below}
 use Rattle.node_rules.specs.Boards.{hasAt}
-use Rattle.node.proofs.Bits.{next-bit}
+use Rattle.sets.proofs.Bits.{next-bit}
 use Rattle.node.proofs.slots.having.Statement.{statement}
 use Rattle.node.proofs.slots.having.Tie as tie
 

@@ -2,7 +2,7 @@
 use mathlib.Core.Path.{sym}
 use borrow.Author.Needs.{needs}
 use Rattle.range.specs.declared.Answer.the-variants.{Yes, No, NoBlock}
-use Rattle.node.proofs.Blocks.{answer-says}
+use Rattle.range.proofs.Laws.{answer-says}
 use Rattle.node.proofs.slots.in_block.Statement.{statement}
 use Rattle.node.proofs.slots.in_block.Tie as tie
 
