@@ -52,7 +52,7 @@ filled-at-none at out =
 end-at-none : (at : ℕ) (out : List ℕ) → endAt at [] out ≡ cond (leb at (length out)) at (length out)
 end-at-none at out = omega (arith, end-at-min at [] out, least at (length out))
 
-filled-at-length : (at : ℕ) (piece out : List ℕ) → length (filledAt at piece out) ≡ length out
+pub filled-at-length : (at : ℕ) (piece out : List ℕ) → length (filledAt at piece out) ≡ length out
 unfolding filledAt
 filled-at-length at piece [] = refl
 filled-at-length (suc at) piece (x ∷ out) = ap length (filled-at-suc at piece x out) ∙ ap suc (filled-at-length at piece out)
@@ -61,6 +61,9 @@ filled-at-length zero (p ∷ ps) (x ∷ out) = ap length (filled-at-cons p ps x 
 
 end-at-le : (at : ℕ) (piece out : List ℕ) → endAt at piece out ≤ length out
 end-at-le at piece out = omega (arith, end-at-min at piece out)
+
+pub end-within : (r at : ℕ) (piece out : List ℕ) → r ≡ endAt at piece out → r ≤ length out
+end-within r at piece out e = omega (arith, e, end-at-le at piece out)
 
 filled-at-byte : (at b : ℕ) (out : List ℕ) → at < length out → filledAt at (b ∷ []) out ≡ set out at b
 unfolding filledAt

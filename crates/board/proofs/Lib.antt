@@ -1,0 +1,6 @@
+pub mod Good
+pub mod Loading
+pub mod Texts
+pub mod Outcomes
+pub mod Running
+pub mod Started

@@ -1,0 +1,93 @@
+-- A board file: a board, and the calls that it is put through. Numbers stand high byte first (document 01, "Trial program"; docs/BENCH.md).
+use Prim.Native.Nat.{ℕ, zero, suc, _+_, _*_}
+use mathlib.Core.Bool.{Bool, cond, _&&_, _||_}
+use mathlib.Core.List.{List}
+use lib.Dec.{eqb, leb}
+use lib.ListN.{length, getD, take, drop}
+use Rattle.range.specs.Range.{blockOf}
+use Rattle.message.specs.Reading.{numberAt}
+use Rattle.node_rules.specs.Boards.{Board, notInitialized, unadvertised, each}
+use Rattle.node_rules.specs.Calls.{Outcome, initialise, announce, produce, setStatus, receive}
+
+-- ---- the board: Node ID 8, range number of the automatic block 8, slot count n 1, then n slots of role 1, Event ID 8, status 1
+
+abbrev pub slotCount : List ℕ → ℕ
+slotCount s = getD s 16 0
+
+abbrev pub slotAt : ℕ → ℕ
+slotAt i = 17 + i * 10
+
+abbrev pub roleIn : List ℕ → ℕ → ℕ
+roleIn s i = getD s (slotAt i) 0
+
+abbrev pub eventIn : List ℕ → ℕ → ℕ
+eventIn s i = numberAt s (slotAt i + 1) 8
+
+abbrev pub statusIn : List ℕ → ℕ → ℕ
+statusIn s i = getD s (slotAt i + 9) 0
+
+-- The node starts not Initialized with every mark clear.
+abbrev pub boardIn : List ℕ → Board
+boardIn s = record {
+  node = record { id = numberAt s 0 8; state = notInitialized; automatic = blockOf (numberAt s 8 8) };
+  slots = record {
+    roles = each (slotCount s) (roleIn s);
+    events = each (slotCount s) (eventIn s);
+    statuses = each (slotCount s) (statusIn s);
+    marks = each (slotCount s) (λ _. unadvertised);
+  };
+}
+
+-- ---- the calls, to the end of the file
+
+abbrev pub callsAt : List ℕ → ℕ
+callsAt s = slotAt (slotCount s)
+
+-- Which call stands at a place.
+abbrev pub callIn : List ℕ → ℕ → ℕ
+callIn s at = getD s at 0
+
+-- Room is the length of the output lent.
+abbrev pub roomIn : List ℕ → ℕ → ℕ
+roomIn s at = numberAt s (at + 1) 2
+
+abbrev pub messageLength : List ℕ → ℕ → ℕ
+messageLength s at = numberAt s (at + 3) 2
+
+-- 1 room(2) initialise; 2 room(2) slot(1) announce; 3 room(2) slot(1) produce; 4 slot(1) status(1) set status; 5 room(2) length(2) message receive.
+abbrev pub headSize : ℕ → ℕ
+headSize call = cond (eqb call 1 || eqb call 4) 3 (cond (eqb call 5) 5 4)
+
+unfoldable pub sizeAt : List ℕ → ℕ → ℕ
+sizeAt s at = headSize (callIn s at) + cond (eqb (callIn s at) 5) (messageLength s at) 0
+
+unfoldable pub outcomeAt : Board → List ℕ → ℕ → Outcome
+outcomeAt b s at =
+    cond (eqb (callIn s at) 1) (initialise b (roomIn s at))
+    (cond (eqb (callIn s at) 2) (announce b (getD s (at + 3) 0) (roomIn s at))
+    (cond (eqb (callIn s at) 3) (produce b (getD s (at + 3) 0) (roomIn s at))
+    (cond (eqb (callIn s at) 4) (setStatus b (getD s (at + 1) 0) (getD s (at + 2) 0))
+    (receive b (take (messageLength s at) (drop (at + 5) s)) (roomIn s at)))))
+
+-- ---- good files
+
+-- One of the five calls, not cut short, with a room of at most 2,048.
+unfoldable pub goodCall : List ℕ → ℕ → Bool
+goodCall s at =
+    (leb 1 (callIn s at) && leb (callIn s at) 5)
+    && (leb (at + headSize (callIn s at)) (length s)
+    && (leb (at + sizeAt s at) (length s) && (eqb (callIn s at) 4 || leb (roomIn s at) 2048)))
+
+-- At most so many calls, to the end of the file.
+unfoldable pub goodCalls : ℕ → List ℕ → ℕ → Bool
+goodCalls zero s at = leb (length s) at
+goodCalls (suc n) s at = leb (length s) at || (goodCall s at && goodCalls n s (at + sizeAt s at))
+
+abbrev pub mostCalls : ℕ
+mostCalls = 1000
+
+-- At most 65,536 bytes, 100 slots and 1,000 calls.
+unfoldable pub goodFile : List ℕ → Bool
+goodFile s =
+    leb (length s) 65536
+    && (leb 17 (length s) && (leb (slotCount s) 100 && (leb (callsAt s) (length s) && goodCalls mostCalls s (callsAt s))))
