@@ -1,4 +1,4 @@
--- A board file: a board, and the calls that it is put through. Numbers stand high byte first (document 01, "Trial program"; docs/BENCH.md).
+-- A board file: a board, and the calls that it is put through. Numbers stand high byte first (docs/BOARD-FILES.md).
 use Prim.Native.Nat.{ℕ, zero, suc, _+_, _*_}
 use mathlib.Core.Bool.{Bool, cond, _&&_, _||_}
 use mathlib.Core.List.{List}
