@@ -1,0 +1,93 @@
+-- The entries that are done, and the lines that are still to be put in.
+use Prim.Native.Nat.{ℕ, zero, suc, _+_, _-_, _≤_, _<_}
+use mathlib.Core.Path.{_≡_, refl, sym, ap, ap₂, _∙_}
+use mathlib.Core.List.{List, [], _∷_, _++_}
+use native.Mathlib.Nat.{sub-zero}
+use native.Mathlib.Numerals.{add-one}
+use native.Mathlib.Omega.{arith}
+use lib.ListN.{length, getD, take, drop, length-append}
+use Rattle.text.specs.declared.Place.{Place}
+use Rattle.text.specs.Text.{filled, endOf}
+use Rattle.text.proofs.Laws.{Remains, remains-next, remains-none}
+use Rattle.gateway_rules.specs.declared.Line.{Line}
+use Rattle.gateway_rules.specs.State.{Gate, noLine, firstPlaces, gateOf, startOf}
+use Rattle.gateway_rules.specs.Step.{Outcome, start, step}
+use Rattle.gateway.specs.declared.Answer.{Answer}
+use Rattle.gateway.specs.Answers.{Seen, seenIn, seenOf}
+use Rattle.replay.specs.Files.{entryCount, entryAt, portIn, lengthIn, bodyAt}
+use Rattle.replay.specs.Lines.{ports, house, lineOf, lineFor, stepAt, linesFrom}
+use Rattle.replay.proofs.Good.{Good, body-first, body-next, body-part, body-within}
+
+-- ---- the lines of the entries from an entry on
+
+module _ (i : ℕ) (g : Gate) (s : List ℕ) where
+  lines-end : linesFrom 0 i g s ≡ []
+  unfolding linesFrom
+  lines-end = refl
+
+  lines-next : (n : ℕ) → linesFrom (suc n) i g s ≡ lineFor i (stepAt g s i) ++ linesFrom n (suc i) (stepAt g s i .next) s
+  unfolding linesFrom
+  lines-next n = refl
+
+count-places : (n : ℕ) (places : List Line) → length (firstPlaces n places) ≡ n
+unfolding firstPlaces
+count-places zero places = refl
+count-places (suc n) places = omega (arith, length-append (firstPlaces n places) (getD places n noLine ∷ []), count-places n places)
+
+-- The line of an answer, with the count that the step leaves.
+line-for : (i : ℕ) (o : Outcome) (a : Answer) → seenIn a ≡ seenOf o → lineOf i (a .refusal) (a .sent) (a .gateway .table .count) ≡ lineFor i o
+unfolding gateOf
+line-for i o a e =
+    let count = sym (count-places (a .gateway .table .count) (a .gateway .table .lines)) ∙ ap (λ (x : Seen). length (x .gate .lines)) e in
+    λ t. lineOf i (e t .refusal) (e t .sent) (count t)
+
+-- A start with 4 ports is not refused.
+started : (a : Answer) → seenIn a ≡ seenOf (start ports house) → gateOf (a .gateway) ≡ startOf ports house
+unfolding start
+started a e = ap (λ (x : Seen). x .gate) e
+
+-- ---- the entries done
+
+-- Before entry i, whose body stands at a place of the file.
+pub record Running (file : List ℕ) (first : Place) (text₀ : List ℕ) (i at : ℕ) (g : Gate) (next : Place) (text : List ℕ) : Type 0 where
+  pub inside : i ≤ entryCount file
+  pub body : at ≡ bodyAt file i
+  pub rest : Remains first (linesFrom (entryCount file) 0 (startOf ports house) file) text₀ next (linesFrom (entryCount file - i) i g file) text
+
+pub running-start : (file : List ℕ) (first : Place) (text : List ℕ) (a : Answer) {count : ℕ} → seenIn a ≡ seenOf (start ports house)
+    → count ≡ entryCount file → first .at ≤ length text → Running file first text 0 (entryAt count) (gateOf (a .gateway)) first text
+running-start file first text a e f h = record {
+  inside = omega arith;
+  body = ap entryAt f ∙ sym (body-first file);
+  rest = rw (sub-zero (entryCount file), started a e) (record { inside = h; place = refl; bytes = refl });
+}
+
+module _ {file : List ℕ} {first : Place} {text₀ : List ℕ} {i at : ℕ} {g : Gate} {next : Place} {text : List ℕ} (r : Running file first text₀ i at g next text) where
+  -- The entry's body is within the file.
+  pub running-within : {size : ℕ} → Good file → i < entryCount file → size ≡ lengthIn file i → at + size ≤ length file
+  running-within good h z = omega (arith, body-within good i h, r .body, z)
+
+  -- The entry's line is put in, and the next body stands after its own.
+  pub running-next : (a : Answer) {next′ : Place} {text′ : List ℕ} {size : ℕ} → i < entryCount file → size ≡ lengthIn file i
+      → seenIn a ≡ seenOf (step g (portIn file i) (take (at + size - at) (drop at file)))
+      → next′ ≡ endOf next (lineOf i (a .refusal) (a .sent) (a .gateway .table .count)) text
+      → text′ ≡ filled next (lineOf i (a .refusal) (a .sent) (a .gateway .table .count)) text
+      → Running file first text₀ (i + 1) (at + size) (gateOf (a .gateway)) next′ text′
+  running-next a h z e e₁ f₁ =
+      let left : entryCount file - i ≡ suc (entryCount file - (i + 1)) = omega (arith, h) in
+      let taken : seenIn a ≡ seenOf (stepAt g file i) = e ∙ ap (λ (l : List ℕ). seenOf (step g (portIn file i) l)) (body-part file i (r .body) z) in
+      let line = line-for i (stepAt g file i) a taken in
+      let lines : linesFrom (entryCount file - i) i g file ≡ lineOf i (a .refusal) (a .sent) (a .gateway .table .count) ++ linesFrom (entryCount file - (i + 1)) (i + 1) (gateOf (a .gateway)) file
+      = ap (λ (n : ℕ). linesFrom n i g file) left
+      ∙ lines-next i g file (entryCount file - (i + 1))
+      ∙ λ t. sym line t ++ linesFrom (entryCount file - (i + 1)) (sym (add-one i) t) (sym taken t .gate) file in
+      record {
+        inside = omega (arith, h);
+        body = ap₂ _+_ (r .body) z ∙ sym (body-next file i);
+        rest = remains-next (lineOf i (a .refusal) (a .sent) (a .gateway .table .count)) (rw lines at (r .rest)) e₁ f₁;
+      }
+
+  pub running-end : entryCount file ≤ i → (next ≡ endOf first (linesFrom (entryCount file) 0 (startOf ports house) file) text₀) × (text ≡ filled first (linesFrom (entryCount file) 0 (startOf ports house) file) text₀)
+  running-end h =
+      let none : entryCount file - i ≡ 0 = omega (arith, h) in
+      remains-none (rw (ap (λ (n : ℕ). linesFrom n i g file) none ∙ lines-end i g file) at (r .rest))

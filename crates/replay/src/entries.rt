@@ -1,0 +1,45 @@
+// The entries of a trial file, one after another.
+ghost use mathlib.Core.Path.{_≡_};
+ghost use mathlib.Core.Bool.{true};
+ghost use Prim.Native.Nat.{_≤_};
+ghost use lib.ListN.{length};
+ghost use Rattle.text.specs.Text.{filled, endOf};
+ghost use Rattle.gateway_rules.specs.State.{startOf};
+ghost use Rattle.replay.specs.Files.{entryCount, goodFile};
+ghost use Rattle.replay.specs.Lines.{ports, house, linesFrom};
+use crate::files;
+use crate::lines;
+use text::Place;
+
+const PORTS: u8 = 4;
+
+const HOUSE: u64 = 0x0100_0000_0000_FFFF;
+
+// Puts the line of each entry into text.
+pub(crate) fn run(file: &[u8], first: Place, text: &mut [u8]) -> Place
+    requires { ⌜ goodFile (now file) ≡ true ⌝ }
+    requires { ⌜ first .at ≤ length (now text) ⌝ }
+    ensures { λ r. ⌜ r ≡ endOf first (linesFrom (entryCount (now (file .entry))) 0 (startOf ports house) (now (file .entry))) (now (text .entry)) ⌝ }
+    ensures { λ _. ⌜ now (text .exit) ≡ filled first (linesFrom (entryCount (now (file .entry))) 0 (startOf ports house) (now (file .entry))) (now (text .entry)) ⌝ }
+{
+    let started = gateway::start(PORTS, HOUSE);
+    let mut box_now = started.gateway;
+    let mut next = first;
+    let count = files::number(file, 0, 2) as usize;
+    let mut at = 2 + count * 3;
+    let mut i = 0;
+    while i < count {
+        let entry = 2 + i * 3;
+        let port = file[entry];
+        let length = files::number(file, entry + 1, 2) as usize;
+        let end = at + length;
+        let a = gateway::receive(box_now, port, &file[at..end]);
+        let after = a.gateway;
+        let table = after.table;
+        next = lines::put(i, a.refusal, a.sent, table.count, next, text);
+        box_now = after;
+        at = end;
+        i += 1;
+    }
+    next
+}

@@ -1,0 +1,23 @@
+// A trial file in, a line an entry out: what the box does with messages, one after another.
+mod entries;
+mod files;
+mod lines;
+
+ghost use mathlib.Core.Path.{_≡_};
+ghost use Rattle.text.specs.Text.{filledAt, endAt};
+ghost use Rattle.replay.specs.Lines.{textOf};
+use text::Place;
+
+// Puts the text of a file into text, as much of it as fits, and answers how many bytes that took.
+pub fn replay(file: &[u8], text: &mut [u8]) -> usize
+    ensures { λ r. ⌜ r ≡ endAt 0 (textOf (now (file .entry))) (now (text .entry)) ⌝ }
+    ensures { λ _. ⌜ now (text .exit) ≡ filledAt 0 (textOf (now (file .entry))) (now (text .entry)) ⌝ }
+{
+    let first = Place { skip: 0, at: 0 };
+    if !files::good(file) {
+        let end = text::put(b"bad file\n", first, text);
+        return end.at;
+    }
+    let end = entries::run(file, first, text);
+    end.at
+}
