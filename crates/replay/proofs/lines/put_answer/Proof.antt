@@ -1,5 +1,4 @@
 -- A message that is taken has the digits of the ports, any other its number.
-use mathlib.Core.Path.{_≡_}
 use borrow.Author.Tests.{eq-eqb, ne-eqb}
 use Rattle.text.specs.Text.{decimal}
 use Rattle.text.proofs.Laws.{remains-first, remains-last}
