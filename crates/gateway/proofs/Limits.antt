@@ -9,7 +9,7 @@ use Rattle.sets.specs.Sets.{any, anyBelow}
 use Rattle.gateway_rules.specs.declared.Gateway.{Gateway}
 use Rattle.gateway_rules.specs.State.{badPorts, badAutomatic, gateOf, outOfBounds}
 use Rattle.gateway.specs.Answers.{badAt, inTable}
-use Rattle.gateway.proofs.Places.{count-places}
+use Rattle.gateway_rules.proofs.Lists.{count-places}
 
 abbrev pub stray : Gateway → Bool
 stray g = anyBelow 8 (λ p. leb (g .ports) p && eqb (bit p (g .marks)) 1)

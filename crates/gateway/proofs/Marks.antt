@@ -17,7 +17,7 @@ use Rattle.gateway_rules.specs.State.{gateOf}
 use Rattle.gateway_rules.specs.Step.{has, withLines, announce}
 use Rattle.sets.proofs.Sets.{set-below, member-of-set}
 use Rattle.gateway.specs.Answers.{inTable}
-use Rattle.gateway.proofs.Places.{count-places}
+use Rattle.gateway_rules.proofs.Lists.{count-places}
 
 -- ---- the marks with one more
 

@@ -7,7 +7,7 @@ use mathlib.Core.List.{List, [], _∷_, _++_, append-nil}
 use native.Mathlib.Nat.{le-refl, le-suc, le-trans, eq-or-lt-of-le, le-of-suc-le-suc, not-suc-le-zero}
 use native.Mathlib.Numerals.{add-one}
 use native.Mathlib.Omega.{arith}
-use lib.ListN.{length, getD, set, length-append}
+use lib.ListN.{length, getD, set}
 use lib.Seq.{getD-set-same, getD-set-other}
 use Rattle.gateway_rules.specs.declared.Line.{Line}
 use Rattle.sets.specs.Sets.{any}
@@ -46,11 +46,6 @@ pub kept-on : (test : Line → Bool) (n : ℕ) (places : List Line)
     → test (at places n) ≡ false
     → without test (firstPlaces (n + 1) places) ≡ without test (firstPlaces n places) ++ (at places n ∷ [])
 kept-on test n places e = without-more test n places ∙ ap (λ (t : Bool). without test (firstPlaces n places) ++ cond t [] (at places n ∷ [])) e
-
-pub count-places : (n : ℕ) (places : List Line) → length (firstPlaces n places) ≡ n
-unfolding firstPlaces
-count-places zero places = refl
-count-places (suc n) places = length-append (firstPlaces n places) (at places n ∷ []) ∙ ap (λ (k : ℕ). k + 1) (count-places n places) ∙ add-one n
 
 -- ---- one of them
 

@@ -1,7 +1,8 @@
 -- Lines in a list: one that is there, one that is added, some that are left out.
-use Prim.Native.Nat.{_≤_, zero-le, suc-le-suc}
+use Prim.Native.Nat.{ℕ, zero, suc, _≤_, zero-le, suc-le-suc}
 use native.Mathlib.Nat.{le-trans, le-suc}
-use lib.ListN.{length}
+use native.Mathlib.Omega.{arith}
+use lib.ListN.{length, getD, length-append}
 use Rattle.message.proofs.Writings.{neither}
 use mathlib.Core.Path.{_≡_, refl, sym, ap, _∙_}
 use mathlib.Core.Logic.{_↔_}
@@ -14,6 +15,7 @@ use Rattle.range.proofs.Laws.{both, same-block}
 use Rattle.gateway_rules.specs.declared.Line.{Line}
 use Rattle.sets.specs.Sets.{any}
 use Rattle.sets.proofs.Sets.{any-append}
+use Rattle.gateway_rules.specs.State.{noLine, firstPlaces}
 use Rattle.gateway_rules.specs.Step.{sameLine, has, without}
 
 -- ---- one line and another
@@ -99,3 +101,10 @@ without-none test out (x ∷ xs) h = go (out x) (neither (test x) (any test xs) 
         → any test (cond t (without out xs) (x ∷ without out xs)) ≡ false
     go true h k = k (h .1)
     go false h k = rw (h .0) (k (h .1))
+
+-- ---- the places of the code's table
+
+pub count-places : (n : ℕ) (places : List Line) → length (firstPlaces n places) ≡ n
+unfolding firstPlaces
+count-places zero places = refl
+count-places (suc n) places = omega (arith, length-append (firstPlaces n places) (getD places n noLine ∷ []), count-places n places)

@@ -1,19 +1,19 @@
 -- The entries that are done, and the lines that are still to be put in.
-use Prim.Native.Nat.{ℕ, zero, suc, _+_, _-_, _≤_, _<_}
+use Prim.Native.Nat.{ℕ, suc, _+_, _-_, _≤_, _<_}
 use mathlib.Core.Path.{_≡_, refl, sym, ap, ap₂, _∙_}
-use mathlib.Core.List.{List, [], _∷_, _++_}
+use mathlib.Core.List.{List, [], _++_}
 use native.Mathlib.Nat.{sub-zero}
 use native.Mathlib.Numerals.{add-one}
 use native.Mathlib.Omega.{arith}
-use lib.ListN.{length, getD, take, drop, length-append}
+use lib.ListN.{length, take, drop}
 use Rattle.text.specs.declared.Place.{Place}
 use Rattle.text.specs.Text.{filled, endOf}
 use Rattle.text.proofs.Laws.{Remains, remains-next, remains-none}
-use Rattle.gateway_rules.specs.declared.Line.{Line}
-use Rattle.gateway_rules.specs.State.{Gate, noLine, firstPlaces, gateOf, startOf}
+use Rattle.gateway_rules.specs.State.{Gate, gateOf, startOf}
 use Rattle.gateway_rules.specs.Step.{Outcome, start, step}
 use Rattle.gateway.specs.declared.Answer.{Answer}
 use Rattle.gateway.specs.Answers.{Seen, seenIn, seenOf}
+use Rattle.gateway_rules.proofs.Lists.{count-places}
 use Rattle.replay.specs.Files.{entryCount, entryAt, portIn, lengthIn, bodyAt}
 use Rattle.replay.specs.Lines.{ports, house, lineOf, lineFor, stepAt, linesFrom}
 use Rattle.replay.proofs.Good.{Good, body-first, body-next, body-part, body-within}
@@ -28,11 +28,6 @@ module _ (i : ℕ) (g : Gate) (s : List ℕ) where
   lines-next : (n : ℕ) → linesFrom (suc n) i g s ≡ lineFor i (stepAt g s i) ++ linesFrom n (suc i) (stepAt g s i .next) s
   unfolding linesFrom
   lines-next n = refl
-
-count-places : (n : ℕ) (places : List Line) → length (firstPlaces n places) ≡ n
-unfolding firstPlaces
-count-places zero places = refl
-count-places (suc n) places = omega (arith, length-append (firstPlaces n places) (getD places n noLine ∷ []), count-places n places)
 
 -- The line of an answer, with the count that the step leaves.
 line-for : (i : ℕ) (o : Outcome) (a : Answer) → seenIn a ≡ seenOf o → lineOf i (a .refusal) (a .sent) (a .gateway .table .count) ≡ lineFor i o
