@@ -11,12 +11,12 @@ use Rattle.range.specs.declared.Block.{Block}
 use Rattle.range.specs.Range.{blockOf}
 use Rattle.message.specs.Reading.{numberAt}
 use Rattle.text.specs.declared.Place.{Place}
-use Rattle.text.specs.Text.{filledAt, endAt, filled, endOf}
+use Rattle.text.specs.Text.{filledAt, endAt, filled, endOf, badFile}
 use Rattle.node_rules.specs.Boards.{Board, notInitialized, unadvertised, each}
 use Rattle.node_rules.proofs.Each.{each-length}
 use Rattle.node.specs.Answers.{boardOf}
 use Rattle.board.specs.Files.{slotCount, slotAt, roleIn, eventIn, statusIn, boardIn, callsAt, goodFile, mostCalls}
-use Rattle.board.specs.Lines.{badFile, linesFrom, textOf}
+use Rattle.board.specs.Lines.{linesFrom, textOf}
 use Rattle.board.proofs.Good.{Good, good-file}
 use Rattle.board.proofs.Running.{first-part}
 

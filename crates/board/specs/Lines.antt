@@ -6,21 +6,11 @@ use lib.Dec.{leb}
 use lib.ListN.{length}
 use Rattle.numbers.specs.Numbers.{bytesOf}
 use Rattle.sets.specs.Sets.{setOf}
-use Rattle.text.specs.Text.{decimal, hexOf}
+use Rattle.text.specs.Text.{decimal, hexOf, space, newLine, badFile}
 use Rattle.node_rules.specs.Boards.{Board}
 use Rattle.node_rules.specs.Sending.{allBytes}
 use Rattle.node_rules.specs.Calls.{Outcome}
 use Rattle.board.specs.Files.{boardIn, callsAt, sizeAt, outcomeAt, goodFile, mostCalls}
-
--- A space, a new line, and "bad file" with a new line, in bytes.
-abbrev pub space : List ℕ
-space = 32 ∷ []
-
-abbrev pub newLine : List ℕ
-newLine = 10 ∷ []
-
-abbrev pub badFile : List ℕ
-badFile = 98 ∷ 97 ∷ 100 ∷ 32 ∷ 102 ∷ 105 ∷ 108 ∷ 101 ∷ 10 ∷ []
 
 -- What is there, or a `-`.
 abbrev pub orDash : List ℕ → List ℕ

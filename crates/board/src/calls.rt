@@ -40,7 +40,7 @@ pub(crate) fn run(
         let a = call(current, file, at, roles, events, statuses, marks, &mut out);
         current = a.node;
         let written = a.bytes;
-        next = lines::put(
+        next = lines::put_line(
             k,
             a.refusal,
             &out[0..written],

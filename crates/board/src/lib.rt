@@ -4,6 +4,7 @@ mod files;
 mod lines;
 mod slots;
 
+pub use lines::put_line;
 ghost use mathlib.Core.Path.{_≡_};
 ghost use lib.ListN.{drop};
 ghost use Rattle.text.specs.Text.{filledAt, endAt};

@@ -5,7 +5,7 @@ ghost use Rattle.board.specs.Lines.{orDash, digitsOf, lineOf};
 use text::Place;
 
 // Puts the line of call k into text: its refusal or 0, the bytes written, the matches, and the state and the marks after it.
-pub(crate) fn put(
+pub fn put_line(
     k: usize,
     refusal: u8,
     bytes: &[u8],

@@ -5,10 +5,10 @@ use mathlib.Core.Bool.{Bool, true, false, not}
 use mathlib.Core.List.{List}
 use borrow.Author.Tests.{not-true, not-false}
 use Rattle.text.specs.declared.Place.{Place}
-use Rattle.text.specs.Text.{filledAt, endAt, filled, endOf}
+use Rattle.text.specs.Text.{filledAt, endAt, filled, endOf, badFile}
 use Rattle.gateway_rules.specs.State.{startOf}
 use Rattle.replay.specs.Files.{entryCount, goodFile}
-use Rattle.replay.specs.Lines.{badFile, ports, house, linesFrom, textOf}
+use Rattle.replay.specs.Lines.{ports, house, linesFrom, textOf}
 
 -- A piece is put in from the first byte on.
 abbrev Puts : List ℕ → List ℕ → Place → List ℕ → Type 0

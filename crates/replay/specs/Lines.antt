@@ -6,23 +6,14 @@ use lib.Dec.{eqb}
 use lib.ListN.{length}
 use Rattle.range.specs.Range.{bit}
 use Rattle.sets.specs.Sets.{setOf}
-use Rattle.text.specs.Text.{decimal}
+use Rattle.text.specs.Text.{decimal, space, newLine, badFile}
 use Rattle.gateway_rules.specs.State.{Gate, startOf}
 use Rattle.gateway_rules.specs.Step.{Outcome, step}
 use Rattle.replay.specs.Files.{entryCount, portIn, bodyIn, goodFile}
 
--- A space, a new line, "refused " and "bad file" with a new line, in bytes.
-abbrev pub space : List ℕ
-space = 32 ∷ []
-
-abbrev pub newLine : List ℕ
-newLine = 10 ∷ []
-
+-- "refused " in bytes.
 abbrev pub refusedWord : List ℕ
 refusedWord = 114 ∷ 101 ∷ 102 ∷ 117 ∷ 115 ∷ 101 ∷ 100 ∷ 32 ∷ []
-
-abbrev pub badFile : List ℕ
-badFile = 98 ∷ 97 ∷ 100 ∷ 32 ∷ 102 ∷ 105 ∷ 108 ∷ 101 ∷ 10 ∷ []
 
 -- It starts 4 ports with the house block.
 abbrev pub ports : ℕ

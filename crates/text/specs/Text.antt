@@ -45,3 +45,15 @@ decimal n = decimalUpTo 20 n
 abbrev pub hexOf : List ℕ → List ℕ
 hexOf [] = []
 hexOf (b ∷ bs) = hexDigit (b / 16) ∷ (hexDigit (b % 16) ∷ hexOf bs)
+
+-- ---- words that lines are made of
+
+abbrev pub space : List ℕ
+space = 32 ∷ []
+
+abbrev pub newLine : List ℕ
+newLine = 10 ∷ []
+
+-- "bad file" with a new line (document 01, "Trial program").
+abbrev pub badFile : List ℕ
+badFile = 98 ∷ 97 ∷ 100 ∷ 32 ∷ 102 ∷ 105 ∷ 108 ∷ 101 ∷ 10 ∷ []

@@ -51,17 +51,17 @@ call-requires c κs =
     let l = c .before .before .before .before .loop in
     (c .before .before .before .loop-test .taken, running-good (l .inv .0) (c .before .before .before .loop-test .taken), l .inv .1)
 
-sub-put : tie.Need-sub-put Inv-loop μ-loop
-sub-put c = omega arith
+sub-put-line : tie.Need-sub-put-line Inv-loop μ-loop
+sub-put-line c = omega arith
 
-part-put-start : tie.Need-part-put-start Inv-loop μ-loop
-part-put-start c = omega arith
+part-put-line-start : tie.Need-part-put-line-start Inv-loop μ-loop
+part-put-line-start c = omega arith
 
-part-put-end : tie.Need-part-put-end Inv-loop μ-loop
-part-put-end c = omega (arith, c .before .before .before .before .before .before .before .call .ensures .1 .1 .0)
+part-put-line-end : tie.Need-part-put-line-end Inv-loop μ-loop
+part-put-line-end c = omega (arith, c .before .before .before .before .before .before .before .call .ensures .1 .1 .0)
 
-put-requires : tie.Need-put-requires Inv-loop μ-loop
-put-requires c κs = search needs
+put-line-requires : tie.Need-put-line-requires Inv-loop μ-loop
+put-line-requires c κs = search needs
 
 size-at-requires : tie.Need-size-at-requires Inv-loop μ-loop
 size-at-requires c κs = (c .before .before .before .before .before .before .before .before .before .before .before .before .before .before .before .before .before .loop-test .taken, running-called (c .before .before .before .before .before .before .before .before .before .before .before .before .before .before .before .before .before .before .loop .inv .0) (c .before .before .before .before .before .before .before .before .before .before .before .before .before .before .before .before .before .loop-test .taken) .head)
@@ -80,7 +80,7 @@ loop-again c =
     let l = c .before .before .before .before .before .before .before .before .before .before .before .before .before .before .before .before .before .before .before .loop in
     let call = c .before .before .before .before .before .before .before .before .before .before .before .before .before .before .call in
     let e = call .ensures in
-    let p = c .before .before .before .put .ensures in (
+    let p = c .before .before .before .put-line .ensures in (
       running-next (l .inv .0) (c .before .before .before .before .before .before .before .before .before .before .before .before .before .before .before .before .before .before .loop-test .taken) (e .0) (e .1 .0) (first-part (call .result .bytes) (call .last .1 .1 .1 .1 .1 .1 .1 .0) ∙ e .1 .1 .1) (p .0) (p .1) (c .size-at .ensures),
       call .kept .1 .1 .1 .1 .1 .1 .1 .0 ∙ l .inv .1,
       call .kept .1 .1 .1 .1 .1 .0 ∙ l .inv .2,
@@ -112,10 +112,10 @@ run-spec =
     loop-holds
     slice-aggregate-call
     call-requires
-    sub-put
-    part-put-start
-    part-put-end
-    put-requires
+    sub-put-line
+    part-put-line-start
+    part-put-line-end
+    put-line-requires
     size-at-requires
     add-at-2
     add-k

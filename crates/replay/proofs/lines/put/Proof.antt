@@ -1,9 +1,9 @@
 -- The pieces of the line are put in one after the other.
 use mathlib.Core.Path.{ap, _∙_}
 use lib.ListN.{length}
-use Rattle.text.specs.Text.{decimal}
+use Rattle.text.specs.Text.{decimal, space}
 use Rattle.text.proofs.Laws.{remains-first, remains-next, remains-last, filled-length}
-use Rattle.replay.specs.Lines.{space, answerText, lineOf}
+use Rattle.replay.specs.Lines.{answerText, lineOf}
 use borrow.Author.Needs.{needs}
 use Rattle.replay.proofs.lines.put.Statement.{statement}
 use Rattle.replay.proofs.lines.put.Tie as tie

@@ -3,11 +3,11 @@ use mathlib.Core.Path.{ap, _∙_}
 use borrow.Author.Needs.{needs}
 use lib.ListN.{length}
 use Rattle.numbers.specs.Numbers.{bytesOf}
-use Rattle.text.specs.Text.{decimal, hexOf}
+use Rattle.text.specs.Text.{decimal, hexOf, space}
 use Rattle.text.proofs.Laws.{remains-first, remains-next, remains-last, filled-length}
-use Rattle.board.specs.Lines.{space, orDash, digitsOf, lineOf}
-use Rattle.board.proofs.lines.put.Statement.{statement}
-use Rattle.board.proofs.lines.put.Tie as tie
+use Rattle.board.specs.Lines.{orDash, digitsOf, lineOf}
+use Rattle.board.proofs.lines.put_line.Statement.{statement}
+use Rattle.board.proofs.lines.put_line.Tie as tie
 
 slice-aggregate-write : tie.Need-slice-aggregate-write
 slice-aggregate-write c = search needs
@@ -105,8 +105,8 @@ returns c =
 same-length : tie.Need-same-length
 same-length c = ap length (returns c .1) ∙ filled-length _ _ _
 
-pub put-spec : {M : Type 1} → statement M
-put-spec =
+pub put-line-spec : {M : Type 1} → statement M
+put-line-spec =
     tie.close
     (tie.spec
     slice-aggregate-write

@@ -1,0 +1,10 @@
+pub mod Places
+pub mod Gathered
+pub mod Together
+pub mod Called
+pub mod Fields
+pub mod Turns
+pub mod Lending
+pub mod Locals
+pub mod Parts
+pub mod Told
