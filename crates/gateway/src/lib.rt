@@ -15,6 +15,7 @@ use message::Reading;
 use range::Block;
 
 // The refusal or 0, the set of ports it is sent to, bit p for port p, and the next state.
+#[repr(C)]
 pub struct Answer {
     pub refusal: u8,
     pub sent: u8,

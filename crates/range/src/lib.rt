@@ -7,6 +7,7 @@ ghost use Rattle.range.specs.Answer.{yesOrNo, rangeNumber, numberTold, h
 const ALL_ONES: u64 = 0xFFFF_FFFF_FFFF_FFFF;
 
 // 2^k numbers from start on; is_block tells which values are blocks.
+#[repr(C)]
 pub struct Block {
     pub start: u64,
     pub k: u8,

@@ -1,0 +1,61 @@
+/* Two boards on one leg of a box: board 9 restarts, and what board 7 wants still comes to it. Prints a line a message. */
+#include <stdio.h>
+
+#include "hrislanoth.h"
+
+#define HOUSE UINT64_C(0x010000000000FFFF)
+#define BOARD_7 UINT64_C(0x0A0000000007)
+#define BOARD_9 UINT64_C(0x0A0000000009)
+#define PANEL UINT64_C(0x0A0000000001)
+#define POINTS UINT64_C(0x0A00000000070001)
+
+/* The box keeps nothing by itself: its state is ours, and each call gives the next one back. */
+static hrislanoth_gateway box;
+
+static void at_port(const char *what, uint8_t port, hrislanoth_message message, const uint8_t *content, size_t length)
+{
+    uint8_t bytes[256];
+    hrislanoth_writing written = hrislanoth_write(message, content, length, bytes, sizeof bytes);
+    if (written.refusal != 0) {
+        printf("%s: not written, refusal %d\n", what, written.refusal);
+        return;
+    }
+    hrislanoth_answer answer = hrislanoth_receive(box, port, bytes, written.bytes);
+    box = answer.gateway;
+    printf("%s: refusal %d, sent to", what, answer.refusal);
+    for (int p = 0; p < box.ports; p++)
+        if (answer.sent >> p & 1)
+            printf(" %d", p);
+    printf("; %zu lines\n", box.table.count);
+}
+
+static void with_event(const char *what, uint8_t port, uint16_t mti, uint64_t source, uint64_t event)
+{
+    hrislanoth_message message = {.mti = mti, .source = source, .has_event = 1, .event = event};
+    at_port(what, port, message, (const uint8_t *)"", 0);
+}
+
+static void restart(const char *what, uint8_t port, uint64_t source)
+{
+    uint8_t content[6];
+    for (int i = 0; i < 6; i++)
+        content[i] = (uint8_t)(source >> (40 - 8 * i));
+    hrislanoth_message message = {.mti = 0x0100, .source = source};
+    at_port(what, port, message, content, sizeof content);
+}
+
+int main(void)
+{
+    hrislanoth_answer started = hrislanoth_start(4, HOUSE);
+    if (started.refusal != 0)
+        return 1;
+    box = started.gateway;
+    with_event("board 7 announces", 2, 0x04C4, BOARD_7, POINTS);
+    with_event("the panel reports", 0, 0x05B4, PANEL, POINTS);
+    restart("board 9 restarts", 2, BOARD_9);
+    with_event("the panel reports", 0, 0x05B4, PANEL, POINTS);
+    restart("board 7 restarts", 2, BOARD_7);
+    with_event("the panel reports", 0, 0x05B4, PANEL, POINTS);
+    with_event("a node of zero", 0, 0x05B4, 0, POINTS);
+    return 0;
+}

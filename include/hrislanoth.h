@@ -1,0 +1,118 @@
+/* The proved box and boards, for C and for what links with C.
+ *
+ * Every function answers every input that C can write down: a refusal has a number (document 01, "Refusal numbers"), 0 is none, and beside a refusal
+ * every other number is 0, no output byte changes and a box comes back as it was. Nothing is kept between calls and nothing is allocated.
+ *
+ * Memory is the caller's. A pointer and a length stand for bytes that the caller owns, that stay as they are for the call, and that no other thread writes
+ * meanwhile. No pointer is kept. A pointer is never NULL, not even beside the length 0. Bytes that are written (out, text) overlap no other bytes of
+ * the same call. Those three are all that a caller has to keep; nothing tests them.
+ *
+ * Link with target/staticlib/libface.a, which `rt staticlib face` writes, on x86-64.
+ */
+#ifndef HRISLANOTH_H
+#define HRISLANOTH_H
+
+#include <stddef.h>
+#include <stdint.h>
+
+#ifdef __cplusplus
+extern "C" {
+#endif
+
+/* ---- ranges (001 section 4) */
+
+/* 2^k events from start on. */
+typedef struct {
+    uint64_t start;
+    uint8_t k;
+} hrislanoth_block;
+
+/* The range number, or refusal 14. */
+typedef struct {
+    uint8_t refusal;
+    uint64_t number;
+} hrislanoth_number;
+
+/* The block of any number; 0 and all ones are every event. */
+hrislanoth_block hrislanoth_block_of(uint64_t number);
+
+/* The number that a block is written as; 14 where it has none, or is no block. */
+hrislanoth_number hrislanoth_number_of(hrislanoth_block block);
+
+/* ---- messages (003 section 3.1) */
+
+/* has_destination and has_event are 0 for no, any other number for yes. */
+typedef struct {
+    uint16_t mti;
+    uint64_t source;
+    uint8_t has_destination;
+    uint64_t destination;
+    uint8_t has_event;
+    uint64_t event;
+} hrislanoth_message;
+
+/* The message; its content stands in the caller's bytes from content_at on. Or refusal 1 to 5. */
+typedef struct {
+    uint8_t refusal;
+    hrislanoth_message message;
+    size_t content_at;
+} hrislanoth_reading;
+
+/* How many bytes were written, or refusal 1 to 6. */
+typedef struct {
+    uint8_t refusal;
+    size_t bytes;
+} hrislanoth_writing;
+
+hrislanoth_reading hrislanoth_read(const uint8_t *bytes, size_t length);
+
+/* The rest of out stays as it was. */
+hrislanoth_writing hrislanoth_write(hrislanoth_message message, const uint8_t *content, size_t content_length, uint8_t *out, size_t room);
+
+/* ---- the box */
+
+typedef struct {
+    uint8_t port;
+    uint64_t node;
+    hrislanoth_block block;
+} hrislanoth_line;
+
+typedef struct {
+    hrislanoth_line lines[256];
+    size_t count;
+} hrislanoth_table;
+
+/* Bit p of marks is the open mark of port p. Lines past the count are no part of the state. */
+typedef struct {
+    uint8_t ports;
+    hrislanoth_block automatic;
+    uint8_t marks;
+    hrislanoth_table table;
+} hrislanoth_gateway;
+
+/* The refusal or 0, the ports that it is sent to, bit p for port p, and the box afterwards. */
+typedef struct {
+    uint8_t refusal;
+    uint8_t sent;
+    hrislanoth_gateway gateway;
+} hrislanoth_answer;
+
+/* A box with no lines and no open marks. 8 where ports is not 2 to 8: the box then has 0 ports. */
+hrislanoth_answer hrislanoth_start(uint8_t ports, uint64_t automatic);
+
+/* A message at a port. 7 where the box is out of bounds, 8 where it has no such port, 1 to 5 where the message cannot be read. */
+hrislanoth_answer hrislanoth_receive(hrislanoth_gateway gateway, uint8_t port, const uint8_t *bytes, size_t length);
+
+/* ---- files */
+
+/* The text of a trial file, as much as fits into text; answers how many bytes that took. 65,536 bytes are enough for every file. */
+size_t hrislanoth_trial_text(const uint8_t *file, size_t length, uint8_t *text, size_t room);
+
+/* The text of a board file from byte skip on, as much as fits into text; answers how many bytes that took. */
+size_t hrislanoth_board_text(const uint8_t *file, size_t length, size_t skip, uint8_t *text, size_t room);
+
+#ifdef __cplusplus
+}
+#endif
+
+#endif

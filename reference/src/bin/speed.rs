@@ -1,0 +1,152 @@
+//! `speed` measures the proved calls beside the same work written without proofs; `speed --rows` lists the rows;
+//! `speed --count ROW COLUMN N` makes one row's call N times in one column, for counting its instructions.
+
+#[path = "speed/agree.rs"]
+mod agree;
+#[path = "speed/dice.rs"]
+mod dice;
+#[path = "speed/quick.rs"]
+mod quick;
+#[path = "speed/rows.rs"]
+mod rows;
+
+use std::process::ExitCode;
+use std::time::{Duration, Instant};
+
+use rows::{Call, Row, COLUMNS};
+
+const ROUNDS: usize = 31;
+const ROUND_TIME: Duration = Duration::from_millis(5);
+const USAGE: &str = "speed | speed --rows | speed --count ROW proved|checked|unchecked N";
+const NOTES: &str = "checked: the reference with document 01's test of the whole state first; unchecked: without it. - where there is no state.
+announce-new and restart: every call on a fresh copy of the state, the copy counted in; copy is that copy alone.
+Output buffers (trial, write) are not cleared between calls.";
+
+fn main() -> ExitCode {
+    let arguments: Vec<String> = std::env::args().skip(1).collect();
+    let words: Vec<&str> = arguments.iter().map(String::as_str).collect();
+    let understood = match words[..] {
+        [] => {
+            measure();
+            true
+        }
+        ["--rows"] => {
+            list();
+            true
+        }
+        ["--count", row, column, times] => call_one(row, column, times).is_some(),
+        _ => false,
+    };
+    if !understood {
+        eprintln!("{USAGE}");
+        return ExitCode::from(2);
+    }
+    ExitCode::SUCCESS
+}
+
+fn list() {
+    for row in rows::all() {
+        println!("{}", row.name);
+    }
+}
+
+/// Nothing where the row, the column or the number is none.
+fn call_one(name: &str, column: &str, times: &str) -> Option<()> {
+    let times = times.parse().ok()?;
+    let column = COLUMNS.iter().position(|known| *known == column)?;
+    let mut row = rows::all().into_iter().find(|row| row.name == name)?;
+    let call = row.calls[column].as_mut()?;
+    call(times);
+    Some(())
+}
+
+fn measure() {
+    agree::with_the_reference();
+    let mut measured = Vec::new();
+    for mut row in rows::all() {
+        let rounds = sorted_rounds(&mut row);
+        measured.push((row.name, rounds));
+    }
+    let round = ROUND_TIME.as_millis();
+    println!(
+        "ns per call, the median of {ROUNDS} rounds of about {round} ms, the columns in turn:"
+    );
+    print_table(&measured, ROUNDS / 2);
+    println!("\nThe fastest of these rounds, for a machine that has other work:");
+    print_table(&measured, 0);
+    println!("\n{NOTES}");
+}
+
+/// ns per call in every round of a column, the fastest first; none where the column is empty.
+type Rounds = [Vec<f64>; 3];
+
+fn print_table(measured: &[(&str, Rounds)], place: usize) {
+    let [proved, checked, unchecked] = COLUMNS;
+    print_line(
+        "row",
+        [proved, checked, unchecked, "p/checked", "p/unchecked"],
+    );
+    for (name, rounds) in measured {
+        let [proved, checked, unchecked] = rounds.each_ref().map(|all| all.get(place).copied());
+        let cells = [
+            shown(proved, 1),
+            shown(checked, 1),
+            shown(unchecked, 1),
+            shown(ratio(proved, checked), 2),
+            shown(ratio(proved, unchecked), 2),
+        ];
+        print_line(name, cells.each_ref().map(String::as_str));
+    }
+}
+
+fn print_line(name: &str, cells: [&str; 5]) {
+    let cells = cells.map(|cell| format!("{cell:>12}"));
+    println!("{name:<16}{}", cells.concat());
+}
+
+fn shown(figure: Option<f64>, decimals: usize) -> String {
+    figure.map_or("-".into(), |figure| format!("{figure:.decimals$}"))
+}
+
+fn ratio(over: Option<f64>, under: Option<f64>) -> Option<f64> {
+    Some(over? / under?)
+}
+
+/// In turn, so that a change of the machine's pace meets every column.
+fn sorted_rounds(row: &mut Row) -> Rounds {
+    let times = row
+        .calls
+        .each_mut()
+        .map(|call| call.as_mut().map(calls_a_round));
+    let mut rounds = Rounds::default();
+    for _ in 0..ROUNDS {
+        for column in 0..COLUMNS.len() {
+            if let (Some(call), Some(times)) = (&mut row.calls[column], times[column]) {
+                let nanoseconds = time_of(call, times).as_nanos() as f64;
+                rounds[column].push(nanoseconds / times as f64);
+            }
+        }
+    }
+    for column in &mut rounds {
+        column.sort_by(f64::total_cmp);
+    }
+    rounds
+}
+
+fn calls_a_round(call: &mut Call) -> u64 {
+    let mut times = 1;
+    loop {
+        let taken = time_of(call, times);
+        // Long enough to tell how many calls fill a round.
+        if taken > ROUND_TIME / 4 {
+            return (times as f64 * ROUND_TIME.div_duration_f64(taken)) as u64 + 1;
+        }
+        times *= 2;
+    }
+}
+
+fn time_of(call: &mut Call, times: u64) -> Duration {
+    let begin = Instant::now();
+    call(times);
+    begin.elapsed()
+}

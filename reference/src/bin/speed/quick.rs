@@ -1,0 +1,402 @@
+//! The box as one writes it without proofs: a fixed table changed in place, content borrowed, text into a lent buffer, nothing allocated.
+
+use reference::message::Message;
+use reference::refusal;
+use reference::trial::{BAD_FILE, HOUSE_NUMBER, MOST_BYTES, MOST_ENTRIES};
+
+const MOST_LINES: usize = 256;
+const NODE_ID_BITS: u64 = 0xFFFF_FFFF_FFFF;
+
+/// The low k bits, k up to 64.
+fn low_bits(k: u8) -> u64 {
+    !u64::MAX.unbounded_shl(k.into())
+}
+
+/// The block of a range number, as its start and k.
+fn block_of(number: u64) -> (u64, u8) {
+    let zeros_or_ones = number.trailing_zeros() | number.trailing_ones();
+    let k = zeros_or_ones as u8;
+    (number & !low_bits(k), k)
+}
+
+/// The low k bits of the start are 0; a start of 0 has 64 of them, so no k above 64 passes.
+fn is_block(start: u64, k: u8) -> bool {
+    u32::from(k) <= start.trailing_zeros()
+}
+
+/// Start and event agree on all bits above the low k.
+fn holds(start: u64, k: u8, event: u64) -> bool {
+    u32::from(k) + (start ^ event).leading_zeros() >= 64
+}
+
+fn is_node_id(id: u64) -> bool {
+    id != 0 && id <= NODE_ID_BITS
+}
+
+/// What the reader and the box tell apart.
+#[derive(Clone, Copy, PartialEq, Eq)]
+pub enum Kind {
+    InitializationComplete,
+    Report,
+    ReportWithPayload,
+    ConsumerIdentified,
+    ConsumerRangeIdentified,
+    OtherWithoutContent,
+    Other,
+}
+
+fn kind_of(mti: u16) -> Option<Kind> {
+    Some(match mti {
+        0x4000.. | 0x0F15 | 0x0F16 => return None,
+        0x0100 | 0x0110 => Kind::InitializationComplete,
+        0x05B4 => Kind::Report,
+        0x0F14 => Kind::ReportWithPayload,
+        0x04C4 | 0x04C5 | 0x04C7 => Kind::ConsumerIdentified,
+        0x04A4 => Kind::ConsumerRangeIdentified,
+        0x08F4 | 0x0914 | 0x0544 | 0x0545 | 0x0547 | 0x0524 | 0x0970 | 0x0968 | 0x0594 => {
+            Kind::OtherWithoutContent
+        }
+        _ => Kind::Other,
+    })
+}
+
+fn content_allowed(kind: Kind, length: usize) -> bool {
+    match kind {
+        Kind::InitializationComplete => length == 6,
+        Kind::ReportWithPayload => (1..=256).contains(&length),
+        Kind::Other => length <= 72,
+        _ => length == 0,
+    }
+}
+
+fn has_destination(mti: u16) -> bool {
+    mti & 8 != 0
+}
+
+fn has_event(mti: u16) -> bool {
+    mti & 4 != 0
+}
+
+/// A message that was read; its content stays where it came.
+pub struct Reading<'a> {
+    pub kind: Kind,
+    pub message: Message,
+    pub content: &'a [u8],
+}
+
+/// Reads a message, or answers refusal 1 to 5; never inlined, as the proved call cannot be.
+#[inline(never)]
+pub fn read(bytes: &[u8]) -> Result<Reading<'_>, u8> {
+    take_apart(bytes)
+}
+
+fn take_apart(bytes: &[u8]) -> Result<Reading<'_>, u8> {
+    let [high, low, ..] = *bytes else {
+        return Err(refusal::TOO_SHORT);
+    };
+    let mti = u16::from_be_bytes([high, low]);
+    let kind = kind_of(mti).ok_or(refusal::MTI)?;
+    let (source, rest) = split_number(bytes).ok_or(refusal::TOO_SHORT)?;
+    let (destination, rest) = if has_destination(mti) {
+        let (id, rest) = split_node_id(rest).ok_or(refusal::TOO_SHORT)?;
+        (Some(id), rest)
+    } else {
+        (None, rest)
+    };
+    let (event, content) = if has_event(mti) {
+        let (event, rest) = split_number(rest).ok_or(refusal::TOO_SHORT)?;
+        (Some(event), rest)
+    } else {
+        (None, rest)
+    };
+    let message = Message {
+        mti,
+        // The MTI stands in the two bytes above the source.
+        source: source & NODE_ID_BITS,
+        destination,
+        event,
+    };
+    check_fields(kind, &message, content)?;
+    Ok(Reading {
+        kind,
+        message,
+        content,
+    })
+}
+
+fn split_number(bytes: &[u8]) -> Option<(u64, &[u8])> {
+    let (number, rest) = bytes.split_first_chunk()?;
+    Some((u64::from_be_bytes(*number), rest))
+}
+
+fn split_node_id(bytes: &[u8]) -> Option<(u64, &[u8])> {
+    let (id, rest) = bytes.split_first_chunk()?;
+    Some((node_id(id), rest))
+}
+
+fn node_id(bytes: &[u8; 6]) -> u64 {
+    let [a, b, c, d, e, f] = *bytes;
+    u64::from_be_bytes([0, 0, a, b, c, d, e, f])
+}
+
+/// Refusals 3, 4 and 5, which reading and writing share.
+fn check_fields(kind: Kind, message: &Message, content: &[u8]) -> Result<(), u8> {
+    if !is_node_id(message.source) || message.destination.is_some_and(|id| !is_node_id(id)) {
+        return Err(refusal::NODE_ID);
+    }
+    let fields_fit = message.destination.is_some() == has_destination(message.mti)
+        && message.event.is_some() == has_event(message.mti);
+    if !fields_fit || !content_allowed(kind, content.len()) {
+        return Err(refusal::CONTENT);
+    }
+    if kind == Kind::InitializationComplete && content != &message.source.to_be_bytes()[2..] {
+        return Err(refusal::NOT_SOURCE);
+    }
+    Ok(())
+}
+
+/// Writes a message and answers its length, or refusal 2 to 6; never inlined, as the proved call cannot be.
+#[inline(never)]
+pub fn write(message: &Message, content: &[u8], out: &mut [u8]) -> Result<usize, u8> {
+    let kind = kind_of(message.mti).ok_or(refusal::MTI)?;
+    check_fields(kind, message, content)?;
+    let header = 8
+        + if message.destination.is_some() { 6 } else { 0 }
+        + if message.event.is_some() { 8 } else { 0 };
+    let length = header + content.len();
+    let bytes = out.get_mut(..length).ok_or(refusal::ROOM)?;
+    let first = u64::from(message.mti) << 48 | message.source;
+    bytes[..8].copy_from_slice(&first.to_be_bytes());
+    if let Some(id) = message.destination {
+        bytes[8..14].copy_from_slice(&id.to_be_bytes()[2..]);
+    }
+    if let Some(event) = message.event {
+        bytes[header - 8..header].copy_from_slice(&event.to_be_bytes());
+    }
+    bytes[header..].copy_from_slice(content);
+    Ok(length)
+}
+
+/// Writes to the front of `out` as much as fits, and leaves `out` as what is left.
+fn put(out: &mut &mut [u8], bytes: &[u8]) {
+    let fits = bytes.len().min(out.len());
+    let (front, rest) = std::mem::take(out).split_at_mut(fits);
+    front.copy_from_slice(&bytes[..fits]);
+    *out = rest;
+}
+
+#[derive(Clone, Copy, Debug, Default, PartialEq, Eq)]
+pub struct Line {
+    pub node: u64,
+    pub start: u64,
+    pub k: u8,
+    pub port: u8,
+}
+
+#[derive(Clone, Copy)]
+pub struct Gateway {
+    pub ports: u8,
+    pub marks: u8,
+    pub automatic: (u64, u8),
+    pub count: usize,
+    pub lines: [Line; MOST_LINES],
+}
+
+impl Gateway {
+    pub fn start(ports: u8, automatic: u64) -> Gateway {
+        Gateway {
+            ports,
+            marks: 0,
+            automatic: block_of(automatic),
+            count: 0,
+            lines: [Line::default(); MOST_LINES],
+        }
+    }
+
+    pub fn lines(&self) -> &[Line] {
+        &self.lines[..self.count]
+    }
+
+    /// A message at a port: the refusal or 0, and the ports it is sent to; never inlined, as the proved call cannot be.
+    #[inline(never)]
+    pub fn receive(&mut self, port: u8, bytes: &[u8], check: bool) -> (u8, u8) {
+        match self.accept(port, bytes, check) {
+            Ok(sent) => (refusal::NONE, sent),
+            Err(refusal) => (refusal, 0),
+        }
+    }
+
+    fn accept(&mut self, port: u8, bytes: &[u8], check: bool) -> Result<u8, u8> {
+        if check && !self.in_bounds() {
+            return Err(refusal::BOUNDS);
+        }
+        if port >= self.ports {
+            return Err(refusal::PORT);
+        }
+        let Reading { kind, message, .. } = take_apart(bytes)?;
+        let others = low_bits(self.ports) as u8 & !(1 << port);
+        match (kind, message.event) {
+            (Kind::Report | Kind::ReportWithPayload, Some(event)) => {
+                return Ok(self.wanting(event) & others);
+            }
+            (Kind::ConsumerIdentified, Some(event)) => {
+                self.announce(port, message.source, (event, 0));
+            }
+            (Kind::ConsumerRangeIdentified, Some(number)) => {
+                self.announce(port, message.source, block_of(number));
+            }
+            (Kind::InitializationComplete, _) => self.restart(port, message.source),
+            _ => {}
+        }
+        Ok(others)
+    }
+
+    fn in_bounds(&self) -> bool {
+        let (start, k) = self.automatic;
+        (2..=8).contains(&self.ports)
+            && self.count <= MOST_LINES
+            && u64::from(self.marks) & !low_bits(self.ports) == 0
+            && k != 0
+            && is_block(start, k)
+            && self.lines().iter().all(|line| self.line_in_bounds(line))
+    }
+
+    fn line_in_bounds(&self, line: &Line) -> bool {
+        line.port < self.ports && is_node_id(line.node) && is_block(line.start, line.k)
+    }
+
+    /// The ports that want a report of the event, the arrival port among them.
+    fn wanting(&self, event: u64) -> u8 {
+        let (start, k) = self.automatic;
+        if holds(start, k, event) {
+            return u8::MAX;
+        }
+        let mut wanting = self.marks;
+        for line in self.lines() {
+            if holds(line.start, line.k, event) {
+                wanting |= 1 << line.port;
+            }
+        }
+        wanting
+    }
+
+    fn announce(&mut self, port: u8, node: u64, (start, k): (u64, u8)) {
+        let line = Line {
+            node,
+            start,
+            k,
+            port,
+        };
+        if self.lines().contains(&line) {
+            return;
+        }
+        match self.lines.get_mut(self.count) {
+            Some(place) => {
+                *place = line;
+                self.count += 1;
+            }
+            None => self.marks |= 1 << port,
+        }
+    }
+
+    fn restart(&mut self, port: u8, node: u64) {
+        let lines = &mut self.lines[..self.count];
+        let mut kept = 0;
+        for place in 0..lines.len() {
+            if lines[place].port != port || lines[place].node != node {
+                lines[kept] = lines[place];
+                kept += 1;
+            }
+        }
+        self.count = kept;
+    }
+}
+
+/// The text of a trial file, as much as fits; answers how many bytes that took.
+#[inline(never)]
+pub fn trial_text(file: &[u8], text: &mut [u8], check: bool) -> usize {
+    let room = text.len();
+    let mut left = text;
+    let Some((table, mut bodies)) = parts_of(file) else {
+        put(&mut left, BAD_FILE);
+        return room - left.len();
+    };
+    let mut gateway = Gateway::start(4, HOUSE_NUMBER);
+    for (number, entry) in table.iter().enumerate() {
+        let (body, rest) = bodies.split_at(length_in(entry));
+        bodies = rest;
+        let (refusal, sent) = gateway.receive(entry[0], body, check);
+        let mut line = LineOfText::default();
+        line.number(number);
+        line.answer(refusal, sent);
+        line.number(gateway.count);
+        line.end(&mut left);
+    }
+    room - left.len()
+}
+
+/// The contents table and the bodies, or nothing for a bad file.
+fn parts_of(file: &[u8]) -> Option<(&[[u8; 3]], &[u8])> {
+    if file.len() > MOST_BYTES {
+        return None;
+    }
+    let (count, rest) = file.split_first_chunk()?;
+    let count = usize::from(u16::from_be_bytes(*count));
+    if count > MOST_ENTRIES {
+        return None;
+    }
+    let (table, bodies) = rest.split_at_checked(3 * count)?;
+    let (entries, _) = table.as_chunks();
+    let total: usize = entries.iter().map(length_in).sum();
+    (bodies.len() == total).then_some((entries, bodies))
+}
+
+fn length_in(entry: &[u8; 3]) -> usize {
+    usize::from(u16::from_be_bytes([entry[1], entry[2]]))
+}
+
+/// A line before it goes out; the longest is "999 refused 8 256".
+#[derive(Default)]
+struct LineOfText {
+    bytes: [u8; 24],
+    used: usize,
+}
+
+impl LineOfText {
+    fn push(&mut self, byte: u8) {
+        self.bytes[self.used] = byte;
+        self.used += 1;
+    }
+
+    /// A number below 1,000 and a space.
+    fn number(&mut self, number: usize) {
+        if number >= 100 {
+            self.push(b'0' + (number / 100) as u8);
+        }
+        if number >= 10 {
+            self.push(b'0' + (number / 10 % 10) as u8);
+        }
+        self.push(b'0' + (number % 10) as u8);
+        self.push(b' ');
+    }
+
+    fn answer(&mut self, refusal: u8, sent: u8) {
+        if refusal == refusal::NONE {
+            for port in 0..4 {
+                self.push(b'0' + (sent >> port & 1));
+            }
+            self.push(b' ');
+        } else {
+            for byte in *b"refused " {
+                self.push(byte);
+            }
+            self.number(refusal.into());
+        }
+    }
+
+    /// The line ends in place of its last space, and goes out.
+    fn end(mut self, out: &mut &mut [u8]) {
+        self.bytes[self.used - 1] = b'\n';
+        put(out, &self.bytes[..self.used]);
+    }
+}

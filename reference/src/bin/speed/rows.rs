@@ -1,0 +1,378 @@
+//! What is measured: each row is one piece of work, done by the proved call and by the quick one on the same input.
+
+use std::hint::black_box;
+
+use reference::message::Message;
+use reference::proved;
+use reference::trial::HOUSE_NUMBER;
+
+use crate::agree::trial_file;
+use crate::dice::Dice;
+use crate::quick::{self, Line};
+
+pub const COLUMNS: [&str; 3] = ["proved", "checked", "unchecked"];
+
+/// Makes the call so many times.
+pub type Call = Box<dyn FnMut(u64)>;
+
+pub struct Row {
+    pub name: &'static str,
+    /// In the order of `COLUMNS`; where there is no state, nothing can be left unchecked.
+    pub calls: [Option<Call>; 3],
+}
+
+const NODE: u64 = 0x0A00_0000_0001;
+const EVENT: u64 = 0x0A00_0000_0001_0000;
+/// No line of any table here holds it, and it is not automatic.
+const UNWANTED: u64 = 0x0B00_0000_0000_0000;
+const REPORT: u16 = 0x05B4;
+const CONSUMER_IDENTIFIED: u16 = 0x04C4;
+const RESTART: u16 = 0x0100;
+const IDENTIFY_ADDRESSED: u16 = 0x0968;
+const OTHER: u16 = 0x0490;
+const MOST_CONTENT: [u8; 72] = [0x55; 72];
+
+pub fn all() -> Vec<Row> {
+    let mut rows = vec![copy_row()];
+    rows.extend(report_rows());
+    rows.extend(announcement_rows());
+    rows.extend(restart_rows());
+    rows.push(trial_row());
+    rows.extend(reading_rows());
+    rows.extend(writing_rows());
+    rows
+}
+
+/// The answer is shown by reference: by value it would be copied once more.
+fn repeat<T>(mut call: impl FnMut() -> T + 'static) -> Call {
+    Box::new(move |times| {
+        for _ in 0..times {
+            black_box(&call());
+        }
+    })
+}
+
+/// The state's copy alone, which the rows with a fresh state contain.
+fn copy_row() -> Row {
+    let quick = table(256);
+    let proved = as_proved(&quick);
+    Row {
+        name: "copy",
+        calls: [
+            Some(repeat(move || *black_box(&proved))),
+            Some(repeat(move || *black_box(&quick))),
+            None,
+        ],
+    }
+}
+
+fn report_rows() -> Vec<Row> {
+    let report = |event| message(REPORT, NODE, event);
+    let hit = |count: usize| report(nth_line(count - 1).start);
+    let miss = || report(UNWANTED);
+    vec![
+        unchanging("report-0-miss", table(0), 0, miss(), 0),
+        unchanging("report-16-hit", table(16), 0, hit(16), 1 << 1),
+        unchanging("report-16-miss", table(16), 0, miss(), 0),
+        unchanging("report-64-hit", table(64), 0, hit(64), 1 << 1),
+        unchanging("report-64-miss", table(64), 0, miss(), 0),
+        unchanging("report-256-hit", table(256), 0, hit(256), 1 << 1),
+        unchanging("report-256-miss", table(256), 0, miss(), 0),
+    ]
+}
+
+fn announcement_rows() -> Vec<Row> {
+    let last = nth_line(63);
+    let new = message(CONSUMER_IDENTIFIED, NODE, UNWANTED);
+    let again = message(CONSUMER_IDENTIFIED, last.node, last.start);
+    vec![
+        changing("announce-new", table(64), 1, new, 65),
+        unchanging("announce-again", table(64), last.port, again, 0b1101),
+    ]
+}
+
+/// In 128 lines, one node has every other line and another has a single one in the middle.
+fn restart_rows() -> Vec<Row> {
+    let (many, single) = (NODE + 1_000, NODE + 2_000);
+    let mut gateway = table(128);
+    for line in gateway.lines[..128].iter_mut().step_by(2) {
+        (line.node, line.port) = (many, 1);
+    }
+    (gateway.lines[65].node, gateway.lines[65].port) = (single, 1);
+    vec![
+        changing("restart-1", gateway, 1, restart(single), 127),
+        changing("restart-64", gateway, 1, restart(many), 64),
+    ]
+}
+
+/// A box of four ports with these many lines, none of them for port 0.
+fn table(count: usize) -> quick::Gateway {
+    let mut gateway = quick::Gateway::start(4, HOUSE_NUMBER);
+    gateway.count = count;
+    for place in 0..count {
+        gateway.lines[place] = nth_line(place);
+    }
+    gateway
+}
+
+/// Every line another event, every fourth a range of 16; eight lines to a node.
+fn nth_line(place: usize) -> Line {
+    Line {
+        node: NODE + place as u64 / 8,
+        start: EVENT + 256 * place as u64,
+        k: if place % 4 == 2 { 4 } else { 0 },
+        port: 1 + (place % 3) as u8,
+    }
+}
+
+fn message(mti: u16, source: u64, event: u64) -> Vec<u8> {
+    let mut bytes = mti.to_be_bytes().to_vec();
+    bytes.extend(&source.to_be_bytes()[2..]);
+    bytes.extend(event.to_be_bytes());
+    bytes
+}
+
+fn restart(source: u64) -> Vec<u8> {
+    let mut bytes = RESTART.to_be_bytes().to_vec();
+    bytes.extend(&source.to_be_bytes()[2..]);
+    bytes.extend(&source.to_be_bytes()[2..]);
+    bytes
+}
+
+/// A message that leaves the state as it was, so the quick calls go on with the same one.
+fn unchanging(
+    name: &'static str,
+    start: quick::Gateway,
+    port: u8,
+    bytes: Vec<u8>,
+    sent: u8,
+) -> Row {
+    let after = answer_of_both(&start, port, &bytes, sent);
+    assert_eq!(after.lines(), start.lines());
+    let in_place = |check| {
+        let (mut gateway, bytes) = (start, bytes.clone());
+        repeat(move || black_box(&mut gateway).receive(port, black_box(&bytes), check))
+    };
+    let (checked, unchecked) = (in_place(true), in_place(false));
+    Row {
+        name,
+        calls: [
+            Some(proved_call(&start, port, bytes)),
+            Some(checked),
+            Some(unchecked),
+        ],
+    }
+}
+
+/// A message that changes the state: every call takes a fresh copy, which counts.
+fn changing(
+    name: &'static str,
+    start: quick::Gateway,
+    port: u8,
+    bytes: Vec<u8>,
+    count: usize,
+) -> Row {
+    let after = answer_of_both(&start, port, &bytes, 0b1101);
+    assert_eq!(after.count, count);
+    let on_a_copy = |check| {
+        let bytes = bytes.clone();
+        repeat(move || {
+            let mut fresh = *black_box(&start);
+            let answer = black_box(&mut fresh).receive(port, black_box(&bytes), check);
+            black_box(&fresh);
+            answer
+        })
+    };
+    let (checked, unchecked) = (on_a_copy(true), on_a_copy(false));
+    Row {
+        name,
+        calls: [
+            Some(proved_call(&start, port, bytes)),
+            Some(checked),
+            Some(unchecked),
+        ],
+    }
+}
+
+/// By value, as the call wants it: the copy is its own in every row.
+fn proved_call(start: &quick::Gateway, port: u8, bytes: Vec<u8>) -> Call {
+    let gateway = as_proved(start);
+    repeat(move || proved::receive(black_box(&gateway), port, black_box(&bytes)))
+}
+
+/// The state afterwards, once all three ways have given the same answer.
+fn answer_of_both(start: &quick::Gateway, port: u8, bytes: &[u8], sent: u8) -> quick::Gateway {
+    let mut checked = *start;
+    let mut unchecked = *start;
+    assert_eq!(checked.receive(port, bytes, true), (0, sent));
+    assert_eq!(unchecked.receive(port, bytes, false), (0, sent));
+    let answer = proved::receive(&as_proved(start), port, bytes);
+    assert_eq!((answer.refusal, answer.sent), (0, sent));
+    for after in [as_proved(&checked), as_proved(&unchecked)] {
+        assert!(same_state(&after, &answer.gateway));
+    }
+    checked
+}
+
+fn as_proved(quick: &quick::Gateway) -> proved::Gateway {
+    proved::Gateway {
+        ports: quick.ports,
+        automatic: proved_block(quick.automatic),
+        marks: quick.marks,
+        table: proved::Table {
+            lines: quick.lines.map(proved_line),
+            count: quick.count,
+        },
+    }
+}
+
+fn proved_block((start, k): (u64, u8)) -> proved::Block {
+    proved::Block { start, k }
+}
+
+fn proved_line(line: Line) -> proved::Line {
+    proved::Line {
+        port: line.port,
+        node: line.node,
+        block: proved_block((line.start, line.k)),
+    }
+}
+
+/// Lines past the count are no part of the state.
+fn same_state(one: &proved::Gateway, other: &proved::Gateway) -> bool {
+    let count = one.table.count;
+    (one.ports, one.automatic, one.marks, count)
+        == (other.ports, other.automatic, other.marks, other.table.count)
+        && one.table.lines[..count] == other.table.lines[..count]
+}
+
+fn trial_row() -> Row {
+    let file = trial_file(&trial_entries());
+    let mut text = vec![0; 65_536];
+    let took = proved::trial_text(&file, &mut text);
+    for check in [true, false] {
+        let mut other = vec![0; 65_536];
+        assert_eq!(quick::trial_text(&file, &mut other, check), took);
+        assert_eq!(text, other);
+    }
+    let quick_call = |check| {
+        let (file, mut text) = (file.clone(), vec![0; 65_536]);
+        repeat(move || quick::trial_text(black_box(&file), black_box(&mut text), check))
+    };
+    let (checked, unchecked) = (quick_call(true), quick_call(false));
+    Row {
+        name: "trial-1000",
+        calls: [
+            Some(repeat(move || {
+                proved::trial_text(black_box(&file), black_box(&mut text))
+            })),
+            Some(checked),
+            Some(unchecked),
+        ],
+    }
+}
+
+/// 399 entries announce, 23 restart, 534 report, 44 do something else; the table has 92 lines on average and 125 at the end.
+fn trial_entries() -> Vec<(u8, Vec<u8>)> {
+    let mut dice = Dice(0x9E37_79B9);
+    let mut entries = Vec::new();
+    for _ in 0..1_000 {
+        let node = dice.below(28);
+        let port = (node % 4) as u8;
+        let event = EVENT + 256 * node + dice.below(6);
+        let source = NODE + node;
+        entries.push(match dice.below(50) {
+            0..20 => (port, message(CONSUMER_IDENTIFIED, source, event)),
+            20 => (port, restart(source)),
+            21..48 => (dice.below(4) as u8, message(REPORT, source, event)),
+            _ => (port, message(OTHER, source, event)),
+        });
+    }
+    entries
+}
+
+fn reading_rows() -> Vec<Row> {
+    let plain = message(OTHER, NODE, EVENT);
+    let mut addressed = message(IDENTIFY_ADDRESSED, NODE, 0);
+    addressed.truncate(14);
+    addressed[13] = 2;
+    let mut long = plain[..8].to_vec();
+    long.extend(MOST_CONTENT);
+    vec![
+        reading_row("read-report", message(REPORT, NODE, EVENT)),
+        reading_row("read-addressed", addressed),
+        reading_row("read-72", long),
+    ]
+}
+
+fn reading_row(name: &'static str, bytes: Vec<u8>) -> Row {
+    let quick = quick::read(&bytes).expect("a message that can be read");
+    let proved = proved::read(&bytes);
+    assert_eq!(proved.refusal, 0);
+    assert_eq!(proved.message, proved_message(&quick.message));
+    assert_eq!(&bytes[proved.content_at..], quick.content);
+    let same_bytes = bytes.clone();
+    Row {
+        name,
+        calls: [
+            Some(repeat(move || proved::read(black_box(&bytes)))),
+            Some(repeat(move || {
+                black_box(&quick::read(black_box(&same_bytes)));
+            })),
+            None,
+        ],
+    }
+}
+
+fn writing_rows() -> Vec<Row> {
+    let plain = |mti, event| Message {
+        mti,
+        source: NODE,
+        destination: None,
+        event,
+    };
+    vec![
+        writing_row("write-report", plain(REPORT, Some(EVENT)), &[]),
+        writing_row("write-72", plain(OTHER, None), &MOST_CONTENT),
+    ]
+}
+
+/// Into the same 300 bytes every time, which are not cleared between the calls.
+fn writing_row(name: &'static str, message: Message, content: &'static [u8]) -> Row {
+    let fields = proved_message(&message);
+    let (mut out, mut other_out) = ([0; 300], [0; 300]);
+    let written = proved::write(fields, content, &mut out);
+    assert_eq!(written.refusal, 0);
+    assert_eq!(
+        quick::write(&message, content, &mut other_out),
+        Ok(written.bytes)
+    );
+    assert_eq!(out, other_out);
+    Row {
+        name,
+        calls: [
+            Some(repeat(move || {
+                proved::write(*black_box(&fields), black_box(content), black_box(&mut out))
+            })),
+            Some(repeat(move || {
+                quick::write(
+                    black_box(&message),
+                    black_box(content),
+                    black_box(&mut other_out),
+                )
+            })),
+            None,
+        ],
+    }
+}
+
+fn proved_message(message: &Message) -> proved::Message {
+    proved::Message {
+        mti: message.mti,
+        source: message.source,
+        has_destination: message.destination.is_some().into(),
+        destination: message.destination.unwrap_or(0),
+        has_event: message.event.is_some().into(),
+        event: message.event.unwrap_or(0),
+    }
+}

@@ -1,0 +1,71 @@
+//! Board files: valid and damaged ones, their text as a whole or in parts.
+
+use reference::board::{board_text, BAD_FILE};
+use reference::node::MOST_REPLY_BYTES;
+use reference::proved;
+
+use super::board_files::any_file;
+use super::random::Dice;
+use super::texts::TextAnswer;
+use super::witness::{Hex, Text, Witness};
+
+/// Room beyond the reference's text, so that a longer text shows.
+const SLACK: usize = 256;
+/// The most parts that a text is asked for in, each of which runs the whole file.
+const MOST_PARTS: usize = 12;
+
+/// One file, asked for as a whole, or in parts that are joined.
+pub fn judge(dice: &mut Dice, witness: &mut Witness) {
+    let file = any_file(dice);
+    witness.show(|| format!("board file: {:?}", Hex(file.clone())));
+    let text = board_text(&file);
+    observe(witness, &file, &text);
+    if dice.chance(75) {
+        compare(witness, &file, &text, 0, text.len() + SLACK);
+        return;
+    }
+    witness.column.short_texts += 1;
+    compare_parts(dice, witness, &file, &text);
+    let beyond = dice.pick(&[text.len(), text.len() + 1, usize::MAX]);
+    compare(witness, &file, &text, beyond, SLACK);
+}
+
+/// Asks for the text from byte `skip` on and compares it; answers what was taken.
+fn compare(witness: &mut Witness, file: &[u8], text: &[u8], skip: usize, room: usize) -> Vec<u8> {
+    let proved = TextAnswer::of_proved(room, |buffer| proved::board_text(file, skip, buffer));
+    let reference = TextAnswer::expected(text, skip, room);
+    let asked = || format!("board_text from byte {skip} on into {room} bytes");
+    witness.compare(asked, &proved, &reference);
+    proved.text.0
+}
+
+/// Asks for part after part until one is empty, and compares all of them joined.
+fn compare_parts(dice: &mut Dice, witness: &mut Witness, file: &[u8], text: &[u8]) {
+    let least = text.len().div_ceil(MOST_PARTS).max(1);
+    let mut joined = Vec::new();
+    while !witness.differed {
+        let room = dice.between(least, 4 * least);
+        let part = compare(witness, file, text, joined.len(), room);
+        if part.is_empty() {
+            break;
+        }
+        joined.extend(part);
+    }
+    let asked = || "the parts joined".to_string();
+    witness.compare(asked, &Text(joined), &Text(text.to_vec()));
+}
+
+/// Counts the board and, from the fields of each line, the refusals and the longest replies.
+fn observe(witness: &mut Witness, file: &[u8], text: &[u8]) {
+    if text == BAD_FILE {
+        witness.column.bad_files += 1;
+        return;
+    }
+    witness.column.saw_board(usize::from(file[16]));
+    for line in String::from_utf8_lossy(text).lines() {
+        let fields: Vec<&str> = line.split(' ').collect();
+        let refusal = fields[1].parse().expect("a refusal is a number");
+        witness.column.saw_answer(refusal);
+        witness.column.longest_replies += u64::from(fields[2].len() == 2 * MOST_REPLY_BYTES);
+    }
+}

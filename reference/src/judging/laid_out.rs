@@ -1,0 +1,184 @@
+//! Boxes laid out by hand, in bounds or out of them in a chosen way, in the form of each side.
+
+use std::collections::BTreeSet;
+
+use reference::gateway::{self, MOST_LINES};
+use reference::proved::{Block, Gateway, Line, Table};
+
+use super::random::Dice;
+use super::world::{low_bits, Area, World, HIGHEST_NODE};
+
+/// A state as both sides can take it; more lines than the table has places are there for the reference's sake.
+pub struct Layout {
+    pub ports: u8,
+    automatic: Block,
+    marks: u8,
+    lines: Vec<Line>,
+    /// Lines that the proved side is told of beyond those laid out.
+    pub told: usize,
+}
+
+/// A block that ends in zeros, k from 0 to 64.
+fn any_block(dice: &mut Dice, world: &World) -> Block {
+    let event = world.event(dice);
+    let k = dice.pick(&[0, 0, 0, 1, 2, 8, 16, 48, 63, 64]);
+    Block {
+        start: event & !low_bits(k),
+        k: k as u8,
+    }
+}
+
+/// A start that is no multiple of 2^k, and the k.
+fn crooked_block(dice: &mut Dice) -> Block {
+    let k = dice.between(1, 64) as u32;
+    Block {
+        start: dice.number() & !low_bits(k) | 1 << dice.below(u64::from(k)),
+        k: k as u8,
+    }
+}
+
+/// A k that is none, beside the start that every k allows.
+fn endless_block(dice: &mut Dice) -> Block {
+    Block {
+        start: 0,
+        k: dice.pick(&[65, 66, 128, 255]),
+    }
+}
+
+/// A line in bounds.
+fn any_line(dice: &mut Dice, ports: u8, world: &World) -> Line {
+    Line {
+        port: dice.below(u64::from(ports)) as u8,
+        node: world.node(dice),
+        block: any_block(dice, world),
+    }
+}
+
+/// A line of any numbers at all.
+pub fn any_numbers(dice: &mut Dice) -> Line {
+    Line {
+        port: dice.number() as u8,
+        node: dice.number(),
+        block: Block {
+            start: dice.number(),
+            k: dice.number() as u8,
+        },
+    }
+}
+
+impl Layout {
+    /// A state in bounds, equal lines among its lines at times.
+    pub fn in_bounds(dice: &mut Dice, world: &World, automatic: Area) -> Layout {
+        let ports = dice.between(2, 8) as u8;
+        let mut lines: Vec<Line> = Vec::new();
+        for _ in 0..dice.pick(&[0, 1, 3, 20, 100, 254, 255, 256, 256]) {
+            let line = if lines.is_empty() || dice.chance(90) {
+                any_line(dice, ports, world)
+            } else {
+                dice.pick(&lines)
+            };
+            lines.push(line);
+        }
+        let any_marks = dice.number() as u8;
+        let marks = dice.pick(&[0, 0, 0xFF, any_marks]);
+        Layout {
+            ports,
+            automatic: Block {
+                start: automatic.first,
+                k: automatic.run as u8,
+            },
+            marks: marks & low_bits(u32::from(ports)) as u8,
+            lines,
+            told: 0,
+        }
+    }
+
+    /// Puts the state out of bounds in one way, by its place in the table of counts.
+    pub fn spoil(&mut self, dice: &mut Dice, way: usize) {
+        match way {
+            0 => self.ports = dice.pick(&[0, 1, 9, 10, 255]),
+            1 => self.lengthen(dice),
+            2 => self.some_line(dice).port = dice.pick(&[self.ports, 8, 255]),
+            3 => self.some_line(dice).node = dice.pick(&[0, HIGHEST_NODE + 1, u64::MAX]),
+            4 => self.some_line(dice).block = endless_block(dice),
+            5 => self.some_line(dice).block = crooked_block(dice),
+            6 => self.mark_a_missing_port(dice),
+            7 => self.automatic.k = 0,
+            8 => self.automatic = endless_block(dice),
+            _ => self.automatic = crooked_block(dice),
+        }
+    }
+
+    /// More lines than there may be, by one or by as many as can be told.
+    fn lengthen(&mut self, dice: &mut Dice) {
+        let line = *self.some_line(dice);
+        let count = dice.pick(&[MOST_LINES + 1, MOST_LINES + 1, 300]);
+        self.lines.resize(count, line);
+        self.told = dice.pick(&[0, 0, 1 << 32, usize::MAX - count]);
+    }
+
+    /// One of the lines; the first is made where there is none.
+    fn some_line(&mut self, dice: &mut Dice) -> &mut Line {
+        if self.lines.is_empty() {
+            self.lines.push(Line {
+                port: 0,
+                node: 1,
+                block: Block { start: 0, k: 64 },
+            });
+        }
+        let place = dice.between(0, self.lines.len() - 1);
+        &mut self.lines[place]
+    }
+
+    /// Seven ports at most, and a mark past them.
+    fn mark_a_missing_port(&mut self, dice: &mut Dice) {
+        self.ports = self.ports.min(7);
+        for line in &mut self.lines {
+            line.port %= self.ports;
+        }
+        self.marks &= low_bits(u32::from(self.ports)) as u8;
+        self.marks |= 1 << dice.between(usize::from(self.ports), 7);
+    }
+
+    /// The state for the proved side, any numbers standing in the places past the lines.
+    pub fn for_proved(&self, dice: &mut Dice) -> Gateway {
+        let mut lines = [0; MOST_LINES].map(|_| any_numbers(dice));
+        for (place, line) in self.lines.iter().take(MOST_LINES).enumerate() {
+            lines[place] = *line;
+        }
+        Gateway {
+            ports: self.ports,
+            automatic: self.automatic,
+            marks: self.marks,
+            table: Table {
+                lines,
+                count: self.lines.len() + self.told,
+            },
+        }
+    }
+
+    /// The state for the reference.
+    pub fn for_reference(&self) -> gateway::Gateway {
+        gateway::Gateway {
+            ports: u32::from(self.ports),
+            automatic: (self.automatic.start, u32::from(self.automatic.k)),
+            lines: self.lines.iter().map(reference_line).collect(),
+            open: ports_in(self.marks),
+        }
+    }
+}
+
+/// A line as the reference has it.
+fn reference_line(line: &Line) -> gateway::Line {
+    gateway::Line {
+        port: u32::from(line.port),
+        node: line.node,
+        start: line.block.start,
+        k: u32::from(line.block.k),
+    }
+}
+
+/// The ports of a set of bits.
+fn ports_in(bits: u8) -> BTreeSet<u32> {
+    (0..8).filter(|port| bits >> port & 1 == 1).collect()
+}

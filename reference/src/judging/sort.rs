@@ -1,0 +1,38 @@
+//! The sorts of input.
+
+/// A sort of input; its place here is part of the seed of its inputs.
+#[derive(Clone, Copy, PartialEq, Eq, Debug)]
+pub enum Sort {
+    Range,
+    Message,
+    Box,
+    Trial,
+    Board,
+}
+
+impl Sort {
+    /// All sorts, in the order in which they are run.
+    pub const ALL: [Sort; 5] = [
+        Sort::Range,
+        Sort::Message,
+        Sort::Box,
+        Sort::Trial,
+        Sort::Board,
+    ];
+
+    /// The name on the command line.
+    pub fn name(self) -> &'static str {
+        match self {
+            Sort::Range => "range",
+            Sort::Message => "message",
+            Sort::Box => "box",
+            Sort::Trial => "trial",
+            Sort::Board => "board",
+        }
+    }
+
+    /// The sort of that name.
+    pub fn named(name: &str) -> Option<Sort> {
+        Sort::ALL.into_iter().find(|sort| sort.name() == name)
+    }
+}

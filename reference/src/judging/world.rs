@@ -1,0 +1,173 @@
+//! Nodes, events and ranges that an input draws from, few enough to meet again.
+
+use super::random::Dice;
+
+/// The greatest Node ID.
+pub const HIGHEST_NODE: u64 = 0xFFFF_FFFF_FFFF;
+/// More edges than this are not remembered, so that early ones come up again.
+const MOST_EDGES: usize = 64;
+
+/// A range number with its block's first and last event, made from the run and not worked out from the number.
+#[derive(Clone, Copy)]
+pub struct Area {
+    pub run: u32,
+    pub number: u64,
+    pub first: u64,
+    pub last: u64,
+}
+
+/// The lowest bits set, so many.
+pub fn low_bits(count: u32) -> u64 {
+    if count < 64 {
+        (1 << count) - 1
+    } else {
+        u64::MAX
+    }
+}
+
+impl Area {
+    /// The area whose number ends in a run of so many equal bits, the bit above them being the other one.
+    pub fn with_run(above: u64, run: u32, ones: bool) -> Area {
+        let mask = low_bits(run);
+        let next = low_bits(run + 1) & !mask;
+        let high = above & !mask & !next;
+        let number = if ones { high | mask } else { high | next };
+        Area {
+            run,
+            number,
+            first: number & !mask,
+            last: number | mask,
+        }
+    }
+
+    /// The house default of the automatic block.
+    pub fn house() -> Area {
+        Area::with_run(0x0100_0000_0000_0000, 16, true)
+    }
+
+    /// An area of any size around an event.
+    pub fn around(dice: &mut Dice, event: u64) -> Area {
+        let run = if dice.chance(50) {
+            dice.between(1, 12)
+        } else {
+            dice.between(1, 64)
+        };
+        Area::with_run(event, run as u32, dice.chance(50))
+    }
+
+    /// The house default, or any area.
+    pub fn any_automatic(dice: &mut Dice) -> Area {
+        if dice.chance(40) {
+            return Area::house();
+        }
+        let event = dice.number();
+        Area::around(dice, event)
+    }
+
+    /// The first and last event, and those beside them.
+    fn edges(&self) -> [u64; 4] {
+        [
+            self.first,
+            self.last,
+            self.first.wrapping_sub(1),
+            self.last.wrapping_add(1),
+        ]
+    }
+}
+
+/// The nodes and events of one input.
+pub struct World {
+    pub nodes: Vec<u64>,
+    pub events: Vec<u64>,
+    edges: Vec<u64>,
+}
+
+impl World {
+    /// So many nodes and events, some of them near the automatic block.
+    pub fn new(dice: &mut Dice, nodes: usize, events: usize, automatic: Area) -> World {
+        let base = if dice.chance(20) {
+            automatic.last.wrapping_sub(events as u64)
+        } else {
+            dice.number()
+        };
+        let spread = 4 * events as u64;
+        World {
+            nodes: (0..nodes).map(|_| good_node(dice)).collect(),
+            events: (0..events)
+                .map(|_| base.wrapping_add(dice.below(spread)))
+                .collect(),
+            edges: automatic.edges().to_vec(),
+        }
+    }
+
+    /// One of the nodes.
+    pub fn node(&self, dice: &mut Dice) -> u64 {
+        dice.pick(&self.nodes)
+    }
+
+    /// Mostly one of the events, or one beside them, at an edge, or anywhere.
+    pub fn event(&self, dice: &mut Dice) -> u64 {
+        let event = dice.pick(&self.events);
+        match dice.below(24) {
+            0 => event.wrapping_add(1),
+            1 => event.wrapping_sub(1),
+            2 => event ^ (1 << dice.below(64)),
+            3 => dice.number(),
+            4 => dice.pick(&[0, 1, u64::MAX, u64::MAX - 1, 1 << 63, (1 << 63) - 1]),
+            5..=8 => dice.pick(&self.edges),
+            _ => event,
+        }
+    }
+
+    /// A range around one of the events, whose edges are events from now on.
+    pub fn area(&mut self, dice: &mut Dice) -> Area {
+        let event = self.event(dice);
+        let area = Area::around(dice, event);
+        if self.edges.len() < MOST_EDGES {
+            self.edges.extend(area.edges());
+        }
+        area
+    }
+}
+
+/// A Node ID that may stand.
+pub fn good_node(dice: &mut Dice) -> u64 {
+    match dice.below(12) {
+        0 => HIGHEST_NODE,
+        1 => 1,
+        _ => 1 + dice.number() % HIGHEST_NODE,
+    }
+}
+
+/// A number at or past the limits of a Node ID, on either side of them.
+pub fn doubtful_node(dice: &mut Dice) -> u64 {
+    dice.pick(&[
+        0,
+        0,
+        1,
+        HIGHEST_NODE,
+        HIGHEST_NODE + 1,
+        HIGHEST_NODE + 2,
+        1 << 63,
+        u64::MAX,
+    ])
+}
+
+#[cfg(test)]
+mod tests {
+    use super::*;
+    use reference::range::{block_of, last};
+
+    /// An area is what the reference makes of its number, at every run and both bits.
+    #[test]
+    fn areas() {
+        for run in 1..=64 {
+            for ones in [false, true] {
+                let area = Area::with_run(0x1234_5678_9ABC_DEF0, run, ones);
+                assert_eq!(block_of(area.number), (area.first, run));
+                assert_eq!(last(area.first, run), Ok(area.last));
+            }
+        }
+        assert_eq!(Area::house().number, reference::trial::HOUSE_NUMBER);
+    }
+}

@@ -1,0 +1,47 @@
+//! The box and the boards once more, written from the documents alone and without the Rattle code: what the judge compares with.
+//!
+//! The comments name the documents: "01-scope" is document 01, "001" the Event Transport Standard of July 2024, "003" the Message Network draft,
+//! "BOARD-FILES" the page docs/BOARD-FILES.md.
+
+pub mod board;
+pub mod gateway;
+pub mod message;
+pub mod node;
+#[cfg(feature = "proved")]
+pub mod proved;
+pub mod range;
+pub mod trial;
+
+/// The refusal numbers (01-scope, Refusal numbers).
+pub mod refusal {
+    /// Not refused.
+    pub const NONE: u8 = 0;
+    /// Under 2 bytes, or too few for the fields the MTI flags.
+    pub const TOO_SHORT: u8 = 1;
+    /// MTI bit 15 or 14 set, or 0F15, or 0F16.
+    pub const MTI: u8 = 2;
+    /// A present or own Node ID is zero or above 48 bits.
+    pub const NODE_ID: u8 = 3;
+    /// Content length not in the table; when writing, also a field against its flag.
+    pub const CONTENT: u8 = 4;
+    /// Initialization Complete content is not the source.
+    pub const NOT_SOURCE: u8 = 5;
+    /// The output is shorter than what must be written.
+    pub const ROOM: u8 = 6;
+    /// State out of bounds, or over 64 slots.
+    pub const BOUNDS: u8 = 7;
+    /// Port not below the port count; at start, port count not 2 to 8.
+    pub const PORT: u8 = 8;
+    /// Node not Initialized.
+    pub const NOT_INITIALIZED: u8 = 9;
+    /// No such slot, or a status to be set that isn't one of the three.
+    pub const NO_SLOT: u8 = 10;
+    /// Slot is not a producer.
+    pub const NOT_PRODUCER: u8 = 11;
+    /// Slot is not Advertised.
+    pub const NOT_ADVERTISED: u8 = 12;
+    /// Replies would pass 1,024 bytes.
+    pub const REPLIES: u8 = 13;
+    /// No range number; in other range calls, no block.
+    pub const NO_RANGE: u8 = 14;
+}
