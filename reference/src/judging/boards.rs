@@ -11,7 +11,9 @@ use super::witness::{Hex, Text, Witness};
 
 /// Room beyond the reference's text, so that a longer text shows.
 const SLACK: usize = 256;
-/// The most parts that a text is asked for in, each of which runs the whole file.
+/// A text this short is asked for in parts of a few bytes.
+const SHORT: usize = 600;
+/// The most parts of any other text, each of which runs the whole file.
 const MOST_PARTS: usize = 12;
 
 /// One file, asked for as a whole, or in parts that are joined.
@@ -39,9 +41,17 @@ fn compare(witness: &mut Witness, file: &[u8], text: &[u8], skip: usize, room: u
     proved.text.0
 }
 
+/// The smallest part that a text is asked for in: a byte of a short one, else as much as keeps the parts few.
+fn smallest_part(length: usize) -> usize {
+    if length <= SHORT {
+        return 1;
+    }
+    length.div_ceil(MOST_PARTS)
+}
+
 /// Asks for part after part until one is empty, and compares all of them joined.
 fn compare_parts(dice: &mut Dice, witness: &mut Witness, file: &[u8], text: &[u8]) {
-    let least = text.len().div_ceil(MOST_PARTS).max(1);
+    let least = smallest_part(text.len());
     let mut joined = Vec::new();
     while !witness.differed {
         let room = dice.between(least, 4 * least);

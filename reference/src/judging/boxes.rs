@@ -3,12 +3,12 @@
 use std::collections::BTreeSet;
 use std::fmt::{self, Debug, Formatter};
 
-use reference::gateway::{self, MOST_LINES};
+use reference::gateway;
 use reference::proved::{self, Block, Gateway, Line};
 
 use super::counts::WAY_COUNT;
 use super::histories::{any_history, history_in, Arrival};
-use super::laid_out::{any_numbers, Layout};
+use super::laid_out::{any_numbers, Layout, PLACES};
 use super::observed;
 use super::random::Dice;
 use super::witness::{Hex, Witness};
@@ -87,10 +87,14 @@ fn judge_refused_start(dice: &mut Dice, witness: &mut Witness) {
 /// A history from a state in bounds that need not come from a start.
 fn judge_layout(dice: &mut Dice, witness: &mut Witness) {
     let automatic = Area::any_automatic(dice);
-    let world = World::new(dice, 3, 40, automatic);
+    let events = dice.pick(&[40, 1_000]);
+    let mut world = World::new(dice, 3, events, automatic);
+    world.longest_run = dice.pick(&[1, 64]);
     let layout = Layout::in_bounds(dice, &world, automatic);
     let pair = Pair::of_layout(dice, &layout);
-    let arrivals = history_in(dice, layout.ports, world);
+    let reports = (0..4).filter_map(|_| layout.report_of_a_line(dice, &world));
+    let mut arrivals: Vec<Arrival> = reports.collect();
+    arrivals.extend(history_in(dice, layout.ports, world));
     follow(dice, witness, pair, &arrivals);
 }
 
@@ -167,8 +171,8 @@ impl Pair {
     /// Any numbers in two places past the lines, which are no part of the state.
     fn litter(&mut self, dice: &mut Dice) {
         let count = self.proved.table.count;
-        if count < MOST_LINES {
-            let place = dice.between(count, MOST_LINES - 1);
+        if count < PLACES {
+            let place = dice.between(count, PLACES - 1);
             self.proved.table.lines[count] = any_numbers(dice);
             self.proved.table.lines[place] = any_numbers(dice);
         }
@@ -184,14 +188,14 @@ impl Pair {
             automatic: self.proved.automatic,
             marks: self.proved.marks,
             count: table.count,
-            lines: Lines(table.lines[..table.count.min(MOST_LINES)].to_vec()),
+            lines: Lines(table.lines[..table.count.min(PLACES)].to_vec()),
         }
     }
 
     /// The reference's answer and state.
     fn reference_answer(&self, refusal: u8, sent: u8) -> Answer {
         let (start, k) = self.reference.automatic;
-        let lines = self.reference.lines.iter().take(MOST_LINES);
+        let lines = self.reference.lines.iter().take(PLACES);
         Answer {
             refusal,
             sent,

@@ -11,7 +11,7 @@ Compares the proved functions with the reference on random inputs.
 
   --seed N           the main seed (1)
   --files N          how many trial files, how many board files and how many histories of a box (2000)
-  --small N          how many messages and how many ranges (50000)
+  --small N          how many messages and how many ranges (50000); from 32768 on, every MTI is among them
   --only SORT:INDEX  reruns one input, prints it in hexadecimal and both answers;
                      SORT is range, message, box, trial or board
 

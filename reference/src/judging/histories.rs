@@ -1,4 +1,4 @@
-//! Histories of a box: messages one after the other, that fill its table, open ports, restart nodes and ask for all of it.
+//! Histories of a box: messages one after the other that fill its table, open its ports, restart its nodes and report events.
 
 use super::parts::{any_mti, bytes_damaged_at_times, Parts};
 use super::random::Dice;
@@ -113,9 +113,10 @@ pub fn history_in(dice: &mut Dice, ports: u8, world: World) -> Vec<Arrival> {
 }
 
 /// A history that fills the table and goes on from there.
-fn full_history(dice: &mut Dice, ports: u8, world: World) -> Vec<Arrival> {
+fn full_history(dice: &mut Dice, ports: u8, mut world: World) -> Vec<Arrival> {
+    world.longest_run = dice.pick(&[3, 3, 12, 64]);
     let mut maker = Maker::new(dice, ports, world);
-    maker.take(FILLING, (280, 450));
+    maker.take(FILLING, (220, 420));
     maker.take(AT_THE_LIMIT, (20, 350));
     maker.arrivals
 }
@@ -129,7 +130,8 @@ fn history_of_ranges(dice: &mut Dice, ports: u8, world: World) -> Vec<Arrival> {
 
 /// A history of exactly so many messages, the table full in most of it.
 pub fn long_history(dice: &mut Dice, ports: u8, automatic: Area, length: usize) -> Vec<Arrival> {
-    let world = any_world(dice, automatic, (1, 8), (200, 500));
+    let mut world = any_world(dice, automatic, (1, 8), (200, 500));
+    world.longest_run = dice.pick(&[3, 64]);
     let mut maker = Maker::new(dice, ports, world);
     let filling = length.min(300);
     maker.take(FILLING, (filling, filling));
@@ -169,7 +171,7 @@ impl<'a> Maker<'a> {
         let parts = match self.dice.weighted(&weights) {
             0 => self.of_any(&[0x04C4, 0x04C5, 0x04C7]),
             1 => self.range(),
-            2 => self.of_any(&[0x05B4, 0x05B4, 0x05B4, 0x0F14]),
+            2 => self.report(),
             3 => self.of_any(&[0x0100, 0x0110]),
             4 => self.other(),
             _ => return self.repetition(),
@@ -190,6 +192,16 @@ impl<'a> Maker<'a> {
     fn range(&mut self) -> Parts {
         let number = self.world.area(self.dice).number;
         Parts::with_event(self.dice, &self.world, 0x04A4, number)
+    }
+
+    /// A report, at times of the event that the message before it had.
+    fn report(&mut self) -> Parts {
+        let mut parts = self.of_any(&[0x05B4, 0x05B4, 0x05B4, 0x0F14]);
+        let before = self.arrivals.last().and_then(event_in);
+        if before.is_some() && self.dice.chance(30) {
+            parts.event = before;
+        }
+        parts
     }
 
     /// A message of any MTI.
@@ -219,4 +231,10 @@ impl<'a> Maker<'a> {
         }
         self.dice.below(u64::from(self.ports)) as u8
     }
+}
+
+/// The event of a message that has one and no destination; any other message of that length will do as well.
+fn event_in(arrival: &Arrival) -> Option<u64> {
+    let field = arrival.bytes.get(8..16)?;
+    field.try_into().ok().map(u64::from_be_bytes)
 }

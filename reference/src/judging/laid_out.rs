@@ -2,11 +2,16 @@
 
 use std::collections::BTreeSet;
 
-use reference::gateway::{self, MOST_LINES};
+use reference::gateway;
 use reference::proved::{Block, Gateway, Line, Table};
 
+use super::histories::Arrival;
+use super::parts::Parts;
 use super::random::Dice;
 use super::world::{low_bits, Area, World, HIGHEST_NODE};
+
+/// The places of the proved table.
+pub const PLACES: usize = 256;
 
 /// A state as both sides can take it; more lines than the table has places are there for the reference's sake.
 pub struct Layout {
@@ -21,7 +26,9 @@ pub struct Layout {
 /// A block that ends in zeros, k from 0 to 64.
 fn any_block(dice: &mut Dice, world: &World) -> Block {
     let event = world.event(dice);
-    let k = dice.pick(&[0, 0, 0, 1, 2, 8, 16, 48, 63, 64]);
+    let k = dice
+        .pick(&[0, 0, 1, 2, 8, 16, 48, 63, 64])
+        .min(world.longest_run) as u32;
     Block {
         start: event & !low_bits(k),
         k: k as u8,
@@ -96,7 +103,7 @@ impl Layout {
     /// Puts the state out of bounds in one way, by its place in the table of counts.
     pub fn spoil(&mut self, dice: &mut Dice, way: usize) {
         match way {
-            0 => self.ports = dice.pick(&[0, 1, 9, 10, 255]),
+            0 => self.set_ports(dice.pick(&[0, 1, 9, 10, 255])),
             1 => self.lengthen(dice),
             2 => self.some_line(dice).port = dice.pick(&[self.ports, 8, 255]),
             3 => self.some_line(dice).node = dice.pick(&[0, HIGHEST_NODE + 1, u64::MAX]),
@@ -112,7 +119,7 @@ impl Layout {
     /// More lines than there may be, by one or by as many as can be told.
     fn lengthen(&mut self, dice: &mut Dice) {
         let line = *self.some_line(dice);
-        let count = dice.pick(&[MOST_LINES + 1, MOST_LINES + 1, 300]);
+        let count = dice.pick(&[PLACES + 1, PLACES + 1, 300]);
         self.lines.resize(count, line);
         self.told = dice.pick(&[0, 0, 1 << 32, usize::MAX - count]);
     }
@@ -130,20 +137,37 @@ impl Layout {
         &mut self.lines[place]
     }
 
+    /// Another port count, with lines and marks at the ports that are left.
+    fn set_ports(&mut self, ports: u8) {
+        self.ports = ports;
+        self.marks &= low_bits(u32::from(ports)) as u8;
+        for line in &mut self.lines {
+            line.port = line.port.min(ports.saturating_sub(1));
+        }
+    }
+
     /// Seven ports at most, and a mark past them.
     fn mark_a_missing_port(&mut self, dice: &mut Dice) {
-        self.ports = self.ports.min(7);
-        for line in &mut self.lines {
-            line.port %= self.ports;
-        }
-        self.marks &= low_bits(u32::from(self.ports)) as u8;
+        self.set_ports(self.ports.min(7));
         self.marks |= 1 << dice.between(usize::from(self.ports), 7);
+    }
+
+    /// A report of an event that one of the lines holds, the last one as often as not.
+    pub fn report_of_a_line(&self, dice: &mut Dice, world: &World) -> Option<Arrival> {
+        let last = *self.lines.last()?;
+        let any = dice.pick(&self.lines);
+        let line = dice.pick(&[last, any]);
+        let parts = Parts::with_event(dice, world, 0x05B4, line.block.start);
+        Some(Arrival {
+            port: dice.below(u64::from(self.ports)) as u8,
+            bytes: parts.bytes(),
+        })
     }
 
     /// The state for the proved side, any numbers standing in the places past the lines.
     pub fn for_proved(&self, dice: &mut Dice) -> Gateway {
-        let mut lines = [0; MOST_LINES].map(|_| any_numbers(dice));
-        for (place, line) in self.lines.iter().take(MOST_LINES).enumerate() {
+        let mut lines = [0; PLACES].map(|_| any_numbers(dice));
+        for (place, line) in self.lines.iter().take(PLACES).enumerate() {
             lines[place] = *line;
         }
         Gateway {

@@ -49,25 +49,30 @@ impl Output {
     }
 }
 
-/// One byte string to read or one message to write, what is accepted being turned back.
-pub fn judge(dice: &mut Dice, witness: &mut Witness) {
+/// One byte string to read or one message to write, what is accepted being turned back; and two MTIs in turn.
+pub fn judge(dice: &mut Dice, index: u64, witness: &mut Witness) {
     let world = World::new(dice, 3, 3, Area::house());
+    let even = (index as u16).wrapping_mul(2);
+    for mti in [even, even + 1] {
+        let parts = Parts::of_mti(dice, &world, mti);
+        judge_bytes(dice, witness, &parts.bytes());
+    }
     if dice.chance(50) {
-        judge_reading(dice, witness, &world);
+        let bytes = any_bytes(dice, &world);
+        judge_bytes(dice, witness, &bytes);
     } else {
         judge_writing(dice, witness, &world);
     }
 }
 
 /// Reads a byte string, and writes back what was read.
-fn judge_reading(dice: &mut Dice, witness: &mut Witness, world: &World) {
-    let bytes = any_bytes(dice, world);
-    if !compare_read(witness, &bytes) {
+fn judge_bytes(dice: &mut Dice, witness: &mut Witness, bytes: &[u8]) {
+    if !compare_read(witness, bytes) {
         return;
     }
-    if let Ok(read) = message::read(&bytes) {
+    if let Ok(read) = message::read(bytes) {
         witness.column.written_back += 1;
-        write_back(dice, witness, &read, &bytes);
+        write_back(dice, witness, &read, bytes);
     }
 }
 

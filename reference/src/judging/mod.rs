@@ -101,7 +101,7 @@ fn judge(seed: u64, sort: Sort, index: u64, column: &mut Column, printing: bool)
     let mut witness = Witness::new(column, printing);
     match sort {
         Sort::Range => ranges::judge(&mut dice, &mut witness),
-        Sort::Message => messages::judge(&mut dice, &mut witness),
+        Sort::Message => messages::judge(&mut dice, index, &mut witness),
         Sort::Box => boxes::judge(&mut dice, &mut witness),
         Sort::Trial => trials::judge(&mut dice, &mut witness),
         Sort::Board => boards::judge(&mut dice, &mut witness),

@@ -24,8 +24,10 @@ pub fn judge(dice: &mut Dice, witness: &mut Witness) {
     compare(witness, &file, &text, WHOLE);
     if dice.chance(25) {
         witness.column.short_texts += 1;
-        let room = dice.between(0, text.len() + 2);
-        compare(witness, &file, &text, room);
+        for _ in 0..4 {
+            let room = dice.between(0, text.len() + 2);
+            compare(witness, &file, &text, room);
+        }
     }
 }
 

@@ -45,13 +45,10 @@ impl Area {
         Area::with_run(0x0100_0000_0000_0000, 16, true)
     }
 
-    /// An area of any size around an event.
-    pub fn around(dice: &mut Dice, event: u64) -> Area {
-        let run = if dice.chance(50) {
-            dice.between(1, 12)
-        } else {
-            dice.between(1, 64)
-        };
+    /// An area around an event, its run at most so long.
+    pub fn around(dice: &mut Dice, event: u64, longest_run: usize) -> Area {
+        let most = dice.pick(&[longest_run.min(12), longest_run]);
+        let run = dice.between(1, most);
         Area::with_run(event, run as u32, dice.chance(50))
     }
 
@@ -61,7 +58,7 @@ impl Area {
             return Area::house();
         }
         let event = dice.number();
-        Area::around(dice, event)
+        Area::around(dice, event, 64)
     }
 
     /// The first and last event, and those beside them.
@@ -79,6 +76,8 @@ impl Area {
 pub struct World {
     pub nodes: Vec<u64>,
     pub events: Vec<u64>,
+    /// The longest run of a range; wide ranges hold so much that no other line counts.
+    pub longest_run: usize,
     edges: Vec<u64>,
 }
 
@@ -96,6 +95,7 @@ impl World {
             events: (0..events)
                 .map(|_| base.wrapping_add(dice.below(spread)))
                 .collect(),
+            longest_run: 64,
             edges: automatic.edges().to_vec(),
         }
     }
@@ -122,7 +122,7 @@ impl World {
     /// A range around one of the events, whose edges are events from now on.
     pub fn area(&mut self, dice: &mut Dice) -> Area {
         let event = self.event(dice);
-        let area = Area::around(dice, event);
+        let area = Area::around(dice, event, self.longest_run);
         if self.edges.len() < MOST_EDGES {
             self.edges.extend(area.edges());
         }
