@@ -7,13 +7,14 @@ use native.Mathlib.Nat.{eq-of-mul-eq-mul-right, mod-lt, mod-eq-of-lt, mod-one, m
 use native.Mathlib.Omega.{arith}
 use borrow.Author.Tests.{not-true, not-false, eqb-true, eqb-false, eq-eqb, ne-eqb, leb-true, le-leb, lt-leb}
 use lib.Dec.{leb, eqb}
+use lib.Count.{trailingZeros}
 use lib.Pow.{pow-pos}
 use Rattle.range.specs.declared.Block.{Block}
 use Rattle.range.specs.Range.{bit, run, isBlock, inBlock, last, single, blockOf, hasNumber, numberOf, sameBlock}
 use Rattle.range.specs.declared.Answer.{Answer}
 use Rattle.range.specs.declared.RangeNumber.{RangeNumber}
 use Rattle.range.specs.Answer.{Told, told, refused, yesOrNo, rangeNumber, numberTold, holdsTold, sameTold}
-use Rattle.range.proofs.Runs.{run-of}
+use Rattle.range.proofs.Runs.{run-of, zeros-divide}
 
 -- ---- tests
 
@@ -116,11 +117,14 @@ refuted t v e h = sym h ∙ not-true t e
 pub passed : (t v : Bool) → not t ≡ false → t ≡ v → v ≡ true
 passed t v e h = sym h ∙ not-false t e
 
-pub block-tested : (b : Block) → b .k ≤ 64 → isBlock b ≡ eqb (b .start / 2 ^ b .k * 2 ^ b .k) (b .start)
-block-tested b h =
-    same-truth _ _
-    (λ v. eq-eqb _ _ (block-start b v))
-    (λ t. block-made b h (omega (arith, div-add-mod' (b .start) (2 ^ b .k), eqb-true (b .start / 2 ^ b .k * 2 ^ b .k) (b .start) t)))
+-- Counting the zeros of its start tests a block.
+pub block-counted : (b : Block) → leb (b .k) (trailingZeros 64 (b .start)) ≡ isBlock b
+unfolding isBlock
+block-counted b = zeros-divide 64 (b .start) (b .k)
+
+-- A start that is the bits of an event above the low k is a multiple of 2^k.
+pub prefix-block : (b : Block) (e : ℕ) → b .k ≤ 64 → e / 2 ^ b .k * 2 ^ b .k ≡ b .start → isBlock b ≡ true
+prefix-block b e h s = block-made b h (ap (λ (x : ℕ). x % 2 ^ b .k) (sym s) ∙ mul-mod-left (e / 2 ^ b .k) (2 ^ b .k))
 
 -- ---- the answers
 

@@ -1,13 +1,15 @@
 -- The run of a number: the two counts of trailing zeros that give it, what it says of the bits, and that nothing else says the same.
 use Prim.Native.Nat.{ℕ, zero, suc, _+_, _-_, _*_, _/_, _%_, _^_, _≤_, _<_, zero-le, suc-le-suc}
 use mathlib.Core.Path.{_≡_, refl, sym, ap, _∙_}
-use mathlib.Core.Bool.{Bool, true, false, cond}
+use mathlib.Core.Bool.{Bool, true, false, cond, _&&_, and-false}
 use native.Mathlib.Nat.{pow-suc, mod-lt, mod-one, div-one, mul-zero, not-suc-le-zero, le-of-suc-le-suc}
 use native.Mathlib.Omega.{arith}
 use native.Mathlib.Numerals.{add-one, one-add}
 use borrow.Author.Tests.{eqb-true, eqb-false, eq-eqb, ne-eqb}
-use lib.Dec.{eqb, eqb·suc-zero, lit<}
-use lib.Count.{trailingZeros, under}
+use lib.Dec.{leb, eqb, leb·zero, leb·suc-zero, leb·suc-suc, eqb·suc-zero, lit<}
+use mir.Syntax.{w8}
+use mir.Val.{Fits}
+use lib.Count.{trailingZeros, under, trailing-le}
 use lib.Pow.{pow-pos, mod-pow-add, shr-shr}
 use Rattle.range.specs.Range.{bit, bitsEqual, run}
 
@@ -113,6 +115,28 @@ run-only b (suc w) n zero h r =
 run-only b (suc w) n (suc k) h r =
     let rest = run-there b w n k h r in
     rw (eq-eqb (n % 2) b (rest .0)) (ap suc (run-only b w (n / 2) k h (rest .1)))
+
+even-zero : (x : ℕ) → eqb (x * 2 + 0) 0 ≡ eqb x 0
+even-zero zero = refl
+even-zero (suc x) = ne-eqb (suc x * 2 + 0) 0 (λ e. omega arith) ∙ sym (eqb·suc-zero x)
+
+-- At least k zeros are counted exactly where k is at most the width and 2^k divides n.
+pub zeros-divide : (w n k : ℕ) → leb k (trailingZeros w n) ≡ (leb k w && eqb (n % 2 ^ k) 0)
+unfolding trailingZeros
+zeros-divide w n zero = rw (leb·zero (trailingZeros w n), leb·zero w, mod-one)
+zeros-divide zero n (suc k) = rw leb·suc-zero
+zeros-divide (suc w) n (suc k) = go (zeros-divide w (n / 2) k) (n % 2) refl
+  where
+    go : leb k (trailingZeros w (n / 2)) ≡ (leb k w && eqb (n / 2 % 2 ^ k) 0) → (d : ℕ) → n % 2 ≡ d
+        → leb (suc k) (under d (trailingZeros w (n / 2))) ≡ (leb (suc k) (suc w) && eqb (n % 2 ^ suc k) 0)
+    go rest zero e = rw (leb·suc-suc k (trailingZeros w (n / 2)), leb·suc-suc k w, rest, low-split n k, e, even-zero)
+    go rest (suc d) e =
+        let odd : n % 2 ^ suc k ≡ 0 → ⊥ = λ z. omega (arith, low-split n k) in
+        rw (leb·suc-zero, ne-eqb (n % 2 ^ suc k) 0 odd, and-false)
+
+-- The count of 64 bits' zeros is a byte.
+pub count-fits : (n : ℕ) → Fits w8 (trailingZeros 64 n)
+count-fits n = omega (arith, trailing-le 64 n)
 
 -- What the code counts at an even and at an odd number.
 pub run-even : (r : ℕ) → r % 2 ≡ 0 → trailingZeros 64 r ≡ run r

@@ -44,17 +44,13 @@ pub fn single(e: u64) -> Block
     Block { start: e, k: 0 }
 }
 
-// Whether k is at most 64 and the start a multiple of 2^k.
+// Whether k is at most 64 and the start a multiple of 2^k: no start has more than 64 zeros, so one test says both.
 pub fn is_block(b: Block) -> bool
     ensures { λ yes. ⌜ yes ≡ isBlock b ⌝ }
 {
     let k = b.k;
     let start = b.start;
-    if k <= 64 {
-        prefix(start, k) == start
-    } else {
-        false
-    }
+    k <= u64::trailing_zeros(start) as u8
 }
 
 // The range number that a block is written as.
@@ -80,19 +76,22 @@ pub fn number_of(b: Block) -> RangeNumber
     }
 }
 
-// Whether an event is one of a block's.
+// Whether an event is one of a block's. A start that is a prefix is a multiple of 2^k, so only No and NoBlock are told apart by is_block.
 pub fn holds(b: Block, e: u64) -> Answer
     ensures { λ r. ⌜ yesOrNo r ≡ holdsTold b e ⌝ }
 {
     let k = b.k;
     let start = b.start;
-    if !is_block(b) {
+    if k > 64 {
         return Answer::NoBlock;
     }
     if prefix(e, k) == start {
-        Answer::Yes
-    } else {
+        return Answer::Yes;
+    }
+    if is_block(b) {
         Answer::No
+    } else {
+        Answer::NoBlock
     }
 }
 

@@ -1,15 +1,7 @@
 -- Counting the zeros of an even number, or of an odd one's complement, counts the run.
-use Prim.Native.Nat.{ℕ}
-use native.Mathlib.Omega.{arith}
-use mir.Syntax.{w8}
-use mir.Val.{Fits}
-use lib.Count.{trailingZeros, trailing-le}
-use Rattle.range.proofs.Runs.{run-even, run-odd}
+use Rattle.range.proofs.Runs.{count-fits, run-even, run-odd}
 use Rattle.range.proofs.run.Statement.{statement}
 use Rattle.range.proofs.run.Tie as tie
-
-count-fits : (n : ℕ) → Fits w8 (trailingZeros 64 n)
-count-fits n = omega (arith, trailing-le 64 n)
 
 cast-result : tie.Need-cast-result
 cast-result c = count-fits _
