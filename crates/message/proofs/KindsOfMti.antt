@@ -4,7 +4,7 @@ use mathlib.Core.Path.{_≡_, refl, sym, ap, ap₂, _∙_}
 use mathlib.Core.Bool.{Bool, true, false, cond, not, Bool·beq, _&&_, _||_, true≢false}
 use mathlib.Core.List.{List, [], _∷_}
 use borrow.Author.Tests.{eqb-true}
-use lib.Dec.{eqb}
+use lib.Dec.{eqb, ltb}
 use Rattle.range.specs.Range.{single, blockOf}
 use Rattle.range.proofs.Laws.{both}
 use Rattle.message.specs.declared.Kind.{Kind}
@@ -111,6 +111,15 @@ other-exactly m = alike-everywhere (λ (x : Meaning). sameKind Other (x .kind)) 
 pub not-identified : (kindOf 0x04C6 ≡ Other) × (kindOf 0x0546 ≡ Other)
 unfolding meaningOf
 not-identified = (refl, refl)
+
+-- ---- content
+
+-- The MTIs that ask for content.
+pub content-asked : (m : ℕ) → ltb 0 (meaningOf m .least) ≡ oneOf (0x0100 ∷ 0x0110 ∷ 0x0F14 ∷ []) m
+unfolding meaningOf
+content-asked m =
+    let asking : List ℕ = 0x0100 ∷ 0x0110 ∷ 0x0F14 ∷ [] in
+    alike-everywhere (λ (x : Meaning). ltb 0 (x .least)) (oneOf asking) table m refl (λ u. sym (unknown-not-one asking table m refl u))
 
 -- ---- announcements
 

@@ -1,9 +1,10 @@
 -- What proofs cite of the message table and of the tests of a message.
 use Prim.Native.Nat.{ℕ}
-use mathlib.Core.Path.{_≡_, refl}
-use mathlib.Core.Bool.{Bool, true, false, cond, not, _&&_, _||_, and-false, or-true}
+use mathlib.Core.Path.{_≡_, refl, sym, ap, _∙_}
+use mathlib.Core.Bool.{Bool, true, false, cond, not, _&&_, _||_, and-false, or-true, true≢false}
 use mathlib.Core.List.{List, [], _∷_}
-use borrow.Author.Tests.{eqb-true, eq-eqb, ne-eqb}
+use native.Mathlib.Omega.{arith}
+use borrow.Author.Tests.{eqb-true, eq-eqb, le-ltb}
 use lib.Dec.{eqb, ltb}
 use lib.ListN.{length}
 use Rattle.numbers.specs.Numbers.{numberIn}
@@ -11,7 +12,8 @@ use Rattle.range.proofs.Laws.{both}
 use Rattle.message.specs.declared.Meaning.{Meaning}
 use Rattle.message.specs.declared.Message.{Message}
 use Rattle.message.specs.Mti.{isRestart, Row, addressed, carriesEvent, table, other, lookup, meaningOf, kindOf}
-use Rattle.message.specs.Messages.{badNode, badWherePresent, badNodes, misplaced, badContent, otherSource}
+use Rattle.message.specs.Messages.{badNode, badWherePresent, badNodes, misplaced, badContent, otherSource, contentTests}
+use Rattle.message.specs.Refusals.{Test, refuse, firstOf}
 
 -- ---- the table
 
@@ -36,6 +38,12 @@ unfolding meaningOf
 restart-six m h =
     let r = of-lookup (λ (x : Meaning). not (isRestart (x .kind)) || eqb (x .most) 6) table m refl in
     eqb-true (lookup table m .most) 6 (rw h at r)
+
+pub restart-least : (m : ℕ) → isRestart (kindOf m) ≡ true → meaningOf m .least ≡ 6
+unfolding meaningOf
+restart-least m h =
+    let r = of-lookup (λ (x : Meaning). not (isRestart (x .kind)) || eqb (x .least) 6) table m refl in
+    eqb-true (lookup table m .least) 6 (rw h at r)
 
 -- ---- the tests
 
@@ -64,15 +72,6 @@ pub content-event : (m : Message) (s : List ℕ) → misplaced (carriesEvent (m 
 unfolding badContent
 content-event m s h = rw h (or-true (misplaced (addressed (m .mti)) (m .destination)))
 
-pub content-short : (m : Message) (s : List ℕ) → Placed m → ltb (length s) (meaningOf (m .mti) .least) ≡ true → badContent m s ≡ true
-unfolding badContent
-content-short m s p h = rw (p .destination, p .event, h)
-
-pub content-long : (m : Message) (s : List ℕ) → Placed m → ltb (length s) (meaningOf (m .mti) .least) ≡ false
-    → ltb (meaningOf (m .mti) .most) (length s) ≡ true → badContent m s ≡ true
-unfolding badContent
-content-long m s p h k = rw (p .destination, p .event, h, k)
-
 pub content-good : (m : Message) (s : List ℕ) → Placed m → ltb (length s) (meaningOf (m .mti) .least) ≡ false
     → ltb (meaningOf (m .mti) .most) (length s) ≡ false → badContent m s ≡ false
 unfolding badContent
@@ -86,6 +85,26 @@ pub source-same : (m : Message) (s : List ℕ) → numberIn s ≡ m .source → 
 unfolding otherSource
 source-same m s h = rw (eq-eqb (numberIn s) (m .source) h) (and-false (isRestart (kindOf (m .mti))))
 
-pub source-other : (m : Message) (s : List ℕ) → isRestart (kindOf (m .mti)) ≡ true → (numberIn s ≡ m .source → ⊥) → otherSource m s ≡ true
-unfolding otherSource
-source-other m s h k = rw (h, ne-eqb (numberIn s) (m .source) k)
+-- The tests of the content that are left where the nodes are good and the fields are where they are flagged.
+abbrev pub restTests : ℕ → ℕ → List ℕ → List Test
+restTests m source s =
+    refuse 4 (ltb (length s) (meaningOf m .least) || ltb (meaningOf m .most) (length s))
+    ∷ refuse 5 (isRestart (kindOf m) && not (eqb (numberIn s) source))
+    ∷ []
+
+pub content-rest : (m : Message) (s : List ℕ) → badNodes m ≡ false → Placed m → firstOf (restTests (m .mti) (m .source) s) ≡ firstOf (contentTests m s)
+unfolding badContent otherSource
+content-rest m s n p = rw (n, p .destination, p .event)
+
+-- Of no content only the table's least is asked: an Initialization Complete has some.
+pub content-none : (m source : ℕ) (s : List ℕ) → length s ≡ 0 → cond (ltb 0 (meaningOf m .least)) 4 0 ≡ firstOf (restTests m source s)
+content-none m source s e =
+    let short : ltb (length s) (meaningOf m .least) ≡ ltb 0 (meaningOf m .least) = ap (λ (n : ℕ). ltb n (meaningOf m .least)) e in
+    let long : ltb (meaningOf m .most) (length s) ≡ false = le-ltb (meaningOf m .most) (length s) (omega arith) in
+    rw (short, long) (go (ltb 0 (meaningOf m .least)) (isRestart (kindOf m)) refl refl)
+  where
+    go : (t r : Bool) → ltb 0 (meaningOf m .least) ≡ t → isRestart (kindOf m) ≡ r
+        → _≡_ {A = ℕ} (cond t 4 0) (cond (t || false) 4 (cond (r && not (eqb (numberIn s) source)) 5 0))
+    go true r a b = refl
+    go false false a b = refl
+    go false true a b = absurd (true≢false (sym (ap (ltb 0) (restart-least m b)) ∙ a))

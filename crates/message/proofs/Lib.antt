@@ -1,6 +1,7 @@
 pub mod Laws
 pub mod Readings
 pub mod Pasting
+pub mod Pairs
 pub mod Firsts
 pub mod Writings
 pub mod RoundTrips

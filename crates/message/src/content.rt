@@ -1,8 +1,13 @@
 // What reading and writing both test of a message and its content.
 ghost use mathlib.Core.Path.{_≡_};
-ghost use Rattle.message.specs.Refusals.{firstOf};
+ghost use mathlib.Core.Bool.{cond, not, _&&_, _||_};
+ghost use mathlib.Core.List.{[], _∷_};
+ghost use lib.Dec.{eqb, ltb};
+ghost use lib.ListN.{length};
+ghost use Rattle.numbers.specs.Numbers.{numberIn};
+ghost use Rattle.message.specs.Refusals.{refuse, firstOf};
 ghost use Rattle.message.specs.Messages.{badNode, badWherePresent, misplaced as isMisplaced, contentTests};
-ghost use Rattle.message.specs.Mti.{isRestart};
+ghost use Rattle.message.specs.Mti.{isRestart, meaningOf, kindOf};
 use crate::Field;
 use crate::Kind;
 use crate::Message;
@@ -28,6 +33,16 @@ pub(crate) fn refusal_of(message: Message, content: &[u8]) -> u8
     if misplaced(code / 4 % 2 == 1, event) {
         return 4;
     }
+    if content.len() == 0 {
+        return empty_refusal(code);
+    }
+    content_refusal(code, source, content)
+}
+
+// The refusal of the content alone, 4 or 5 in this order, or 0.
+pub(crate) fn content_refusal(code: u16, source: u64, content: &[u8]) -> u8
+    ensures { λ r. ⌜ r ≡ firstOf (refuse 4 (ltb (length (now (content .entry))) (meaningOf code .least) || ltb (meaningOf code .most) (length (now (content .entry)))) ∷ refuse 5 (isRestart (kindOf code) && not (eqb (numberIn (now (content .entry))) source)) ∷ []) ⌝ }
+{
     let meaning = mti::meaning_of(code);
     let least = meaning.least;
     let most = meaning.most;
@@ -46,6 +61,22 @@ pub(crate) fn refusal_of(message: Message, content: &[u8]) -> u8
     } else {
         5
     }
+}
+
+// Most messages have no content: they need not be looked up in the table.
+pub(crate) fn empty_refusal(code: u16) -> u8
+    ensures { λ r. ⌜ r ≡ cond (ltb 0 (meaningOf code .least)) 4 0 ⌝ }
+{
+    if code == 0x0100 {
+        return 4;
+    }
+    if code == 0x0110 {
+        return 4;
+    }
+    if code == 0x0F14 {
+        return 4;
+    }
+    0
 }
 
 // Refusal 3: a Node ID that is zero or above 48 bits.

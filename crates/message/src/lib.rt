@@ -1,6 +1,7 @@
 // Messages: what an MTI means, bytes to a message and back, and what a message announces (003 section 3.1; 001 section 4).
 mod announcing;
 mod content;
+mod fixed;
 mod mti;
 mod reader;
 mod writer;

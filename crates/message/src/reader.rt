@@ -3,36 +3,66 @@ ghost use mathlib.Core.Path.{_≡_};
 ghost use mathlib.Core.Bool.{true};
 ghost use Prim.Native.Nat.{_+_, _≤_};
 ghost use lib.ListN.{length};
-ghost use Rattle.message.specs.Mti.{contentAt};
-ghost use Rattle.message.specs.Reading.{numberAt, fieldAt, fieldsIn, readOf};
+ghost use Rattle.message.specs.Refusals.{firstOf};
+ghost use Rattle.message.specs.Mti.{addressed, contentAt};
+ghost use Rattle.message.specs.Messages.{badWherePresent};
+ghost use Rattle.message.specs.Reading.{numberAt, fieldAt, fieldsIn, readTests, readOf};
 use crate::Field;
 use crate::Message;
 use crate::Reading;
 use crate::content;
+use crate::fixed;
 use crate::mti;
 
 // The message that the bytes hold, or the refusal.
 pub fn read(bytes: &[u8]) -> Reading
     ensures { λ r. ⌜ r ≡ readOf (now (bytes .entry)) ⌝ }
 {
+    let refusal = refusal_in(bytes);
+    if refusal != 0 {
+        return Reading::Refused(refusal);
+    }
+    let code = number(bytes, 0, 2) as u16;
+    let message = fields(code, bytes);
+    Reading::Read(message)
+}
+
+// The refusal, or 0: each field is tested before the next is read, so no message goes through memory.
+fn refusal_in(bytes: &[u8]) -> u8
+    ensures { λ r. ⌜ r ≡ firstOf (readTests (now (bytes .entry))) ⌝ }
+{
     if bytes.len() < 2 {
-        return Reading::Refused(1);
+        return 1;
     }
     let code = number(bytes, 0, 2) as u16;
     if mti::barred(code) {
-        return Reading::Refused(2);
+        return 2;
     }
     let at = mti::content_at(code);
     if bytes.len() < at {
-        return Reading::Refused(1);
+        return 1;
     }
-    let message = fields(code, bytes);
-    let refusal = content::refusal_of(message, &bytes[at..]);
-    if refusal == 0 {
-        Reading::Read(message)
-    } else {
-        Reading::Refused(refusal)
+    let source = number(bytes, 2, 6);
+    if content::bad_node(source) {
+        return 3;
     }
+    if bad_destination(code, bytes) {
+        return 3;
+    }
+    if bytes.len() == at {
+        return content::empty_refusal(code);
+    }
+    content::content_refusal(code, source, &bytes[at..])
+}
+
+fn bad_destination(code: u16, bytes: &[u8]) -> bool
+    requires { ⌜ contentAt code ≤ length (now bytes) ⌝ }
+    ensures { λ yes. ⌜ yes ≡ badWherePresent (fieldAt (addressed code) (now (bytes .entry)) 8 6) ⌝ }
+{
+    if code / 8 % 2 == 1 {
+        return content::bad_node(number(bytes, 8, 6));
+    }
+    false
 }
 
 fn fields(code: u16, bytes: &[u8]) -> Message
@@ -66,5 +96,14 @@ fn number(bytes: &[u8], at: usize, width: usize) -> u64
     requires { ⌜ (width ≤ 8) × (at + width ≤ length (now bytes)) ⌝ }
     ensures { λ n. ⌜ n ≡ numberAt (now (bytes .entry)) at width ⌝ }
 {
+    if width == 8 {
+        return fixed::eight(bytes, at);
+    }
+    if width == 6 {
+        return fixed::six(bytes, at);
+    }
+    if width == 2 {
+        return fixed::two(bytes, at);
+    }
     numbers::read(&bytes[at..at + width])
 }

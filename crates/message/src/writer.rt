@@ -1,13 +1,16 @@
 // A message to bytes.
 ghost use mathlib.Core.Path.{_≡_};
 ghost use Prim.Native.Nat.{_+_, _≤_};
+ghost use mathlib.Core.List.{_++_};
 ghost use lib.ListN.{length};
+ghost use Rattle.numbers.specs.Numbers.{bytesOf};
 ghost use Rattle.message.specs.Messages.{fieldBytes, messageBytes};
 ghost use Rattle.message.specs.Writing.{writeOf, outAfter, pasted};
 use crate::Field;
 use crate::Message;
 use crate::Writing;
 use crate::content;
+use crate::fixed;
 use crate::mti;
 
 // Writes the message with its content to the start of out, and answers how many bytes it took, or the refusal.
@@ -42,11 +45,19 @@ fn put_message(message: Message, body: &[u8], out: &mut [u8])
     let source = message.source;
     let destination = message.destination;
     let event = message.event;
-    let after_mti = put_field(Field::Present(code), 2, 0, out);
-    let after_source = put_field(Field::Present(source), 6, after_mti, out);
-    let after_destination = put_field(destination, 6, after_source, out);
+    put_front(code, source, out);
+    let after_destination = put_field(destination, 6, 8, out);
     let after_event = put_field(event, 8, after_destination, out);
     put_body(body, after_event, out);
+}
+
+// Writes the MTI and the source, the source first: so they are stored in the order of their low bytes.
+fn put_front(code: u64, source: u64, out: &mut [u8])
+    requires { ⌜ 8 ≤ length (now out) ⌝ }
+    ensures { λ _. ⌜ now (out .exit) ≡ pasted 0 (bytesOf 2 code ++ bytesOf 6 source) (now (out .entry)) ⌝ }
+{
+    fixed::put_six(source, 2, out);
+    fixed::put_two(code, 0, out);
 }
 
 // Writes a field that is present at its place, and answers the place after it.
@@ -57,11 +68,27 @@ fn put_field(field: Field, width: usize, at: usize, out: &mut [u8]) -> usize
 {
     match field {
         Field::Present(x) => {
-            numbers::write(x, &mut out[at..at + width]);
+            put_number(x, width, at, out);
             at + width
         }
         Field::Absent => at,
     }
+}
+
+// Writes a number in so many bytes from a place on.
+fn put_number(x: u64, width: usize, at: usize, out: &mut [u8])
+    requires { ⌜ at + width ≤ length (now out) ⌝ }
+    ensures { λ _. ⌜ now (out .exit) ≡ pasted at (bytesOf width x) (now (out .entry)) ⌝ }
+{
+    if width == 8 {
+        fixed::put_eight(x, at, out);
+        return;
+    }
+    if width == 6 {
+        fixed::put_six(x, at, out);
+        return;
+    }
+    numbers::write(x, &mut out[at..at + width]);
 }
 
 fn put_body(body: &[u8], at: usize, out: &mut [u8])

@@ -16,11 +16,11 @@ content-at-requires c κs = search needs
 flat-requires : tie.Need-flat-requires
 flat-requires c κs = search needs
 
-enum-known-refusal : tie.Need-enum-known-refusal
-enum-known-refusal c = search needs
-
 returns : tie.Need-returns
 returns c = rw (c .flat .ensures, c .before .content-at .ensures) (ap readingOf (sym (c .before .before .before .m .given .1) ∙ c .before .before .before .before .before .read .ensures))
+
+enum-known-refusal : tie.Need-enum-known-refusal
+enum-known-refusal c = search needs
 
 returns-2 : tie.Need-returns-2
 returns-2 c = ap readingOf (sym (c .before .refusal .given .1) ∙ c .before .before .before .read .ensures)
@@ -33,6 +33,6 @@ hrislanoth-read-spec =
     enum-known-m
     content-at-requires
     flat-requires
-    enum-known-refusal
     returns
+    enum-known-refusal
     returns-2)

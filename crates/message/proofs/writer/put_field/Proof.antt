@@ -1,4 +1,4 @@
--- The bytes of a field that is present fill a part of the output.
+-- The bytes of a field that is present are put in at its place.
 use Prim.Native.Nat.{ℕ, _+_}
 use mathlib.Core.Path.{_≡_, sym, ap, _∙_}
 use mathlib.Core.List.{List, _++_}
@@ -11,7 +11,6 @@ use Rattle.message.specs.declared.Field.{Field}
 use Rattle.message.specs.declared.Field.the-variants.{Present, Absent}
 use Rattle.message.specs.Messages.{fieldBytes}
 use Rattle.message.specs.Writing.{pasted}
-use Rattle.message.proofs.Pasting.{part-filled}
 use Rattle.message.proofs.writer.put_field.Statement.{statement}
 use Rattle.message.proofs.writer.put_field.Tie as tie
 
@@ -24,20 +23,8 @@ none-pasted at out = ap (λ (n : ℕ). take at out ++ drop n out) (add-zero at) 
 enum-known-field : tie.Need-enum-known-field
 enum-known-field c = search needs
 
-add-write : tie.Need-add-write
-add-write c = omega (arith, present-width (c .before .before .before .before .args .width) (c .before .field .given .1))
-
-sub-write : tie.Need-sub-write
-sub-write c = search needs
-
-part-write-start : tie.Need-part-write-start
-part-write-start c = search needs
-
-part-write-end : tie.Need-part-write-end
-part-write-end c = omega (arith, present-width (c .before .before .before .before .args .width) (c .before .field .given .1))
-
-write-requires : tie.Need-write-requires
-write-requires c κs = search needs
+put-number-requires : tie.Need-put-number-requires
+put-number-requires c κs = omega (arith, present-width (c .before .before .before .before .before .args .width) (c .before .before .field .given .1), c .before .before .before .before .before .pre)
 
 add-result : tie.Need-add-result
 add-result c = omega (arith, present-width (c .before .before .before .before .before .before .before .before .args .width) (c .before .before .before .before .before .field .given .1), c .before .before .before .before .before .before .before .before .pre, c .before .before .before .before .before .before .before .before .good)
@@ -51,10 +38,9 @@ same-length c = search needs
 returns : tie.Need-returns
 returns c =
     let a = c .before .before .before .before .before .before .before .before .args in
-    let e = c .before .before .before .before .before .field .given .1 in
-    let w = present-width (a .width) e in (
-      ap (λ (n : ℕ). a .at + n) (sym w),
-      part-filled (a .at) (a .width) _ (a .out .now) _ (omega arith) (c .before .before .write .ensures) ∙ ap (λ (f : Field). pasted (a .at) (fieldBytes (a .width) f) (a .out .now)) (sym e),
+    let e = c .before .before .before .before .before .field .given .1 in (
+      ap (λ (n : ℕ). a .at + n) (sym (present-width (a .width) e)),
+      c .before .before .put-number .ensures ∙ ap (λ (f : Field). pasted (a .at) (fieldBytes (a .width) f) (a .out .now)) (sym e),
     )
 
 returns-2 : tie.Need-returns-2
@@ -70,11 +56,7 @@ put-field-spec =
     tie.close
     (tie.spec
     enum-known-field
-    add-write
-    sub-write
-    part-write-start
-    part-write-end
-    write-requires
+    put-number-requires
     add-result
     enum-told
     same-length
