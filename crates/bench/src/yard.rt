@@ -162,9 +162,9 @@ fn pass_on(g: Gateway, leg: u8, d: Done) -> Passed {
     let bytes = d.bytes;
     let a = taken(g, leg, bytes, d.length);
     let gateway = a.gateway;
-    let table = gateway.table;
+    let head = gateway.head;
     legs(a.sent);
-    lines(table.count);
+    lines(head.count);
     Passed { gateway, board }
 }
 

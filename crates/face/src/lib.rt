@@ -6,14 +6,16 @@ ghost use Rattle.range.specs.Answer.{numberTold};
 ghost use Rattle.text.specs.Text.{filledAt, endAt};
 ghost use Rattle.message.specs.Reading.{readOf};
 ghost use Rattle.message.specs.Writing.{writeOf, outAfter};
-ghost use Rattle.gateway_rules.specs.State.{gateOf};
+ghost use Rattle.gateway_rules.specs.State.{gateOf, lists};
 ghost use Rattle.gateway_rules.specs.Step.{start as startedBy, step as stepOf};
-ghost use Rattle.gateway.specs.Answers.{seenIn, seenOf, refusalKeeps};
+ghost use Rattle.gateway.specs.Answers.{seenIn, seenOf, refusalKeeps, seenLent, lentStep, lentRefusalKeeps};
 ghost use Rattle.replay.specs.Lines.{textOf as trialText};
 ghost use Rattle.board.specs.Lines.{textOf as boardText};
 ghost use Rattle.face.specs.Flat.{numberOf, messageOf, messageIn, readingOf, writingOf, hasField, fieldValue, fieldOf};
 use gateway::Answer;
+use gateway::LentAnswer;
 use gateway_rules::Gateway;
+use gateway_rules::Head;
 use message::Field;
 use message::Message;
 use message::Reading;
@@ -79,24 +81,26 @@ pub extern "C" fn hrislanoth_read(bytes: &[u8]) -> FlatReading
         Reading::Read(m) => {
             let content_at = message::content_at(m.mti);
             let message = flat(m);
-            FlatReading {
+            return FlatReading {
                 refusal: 0,
                 message,
                 content_at,
-            }
+            };
         }
-        Reading::Refused(refusal) => FlatReading {
-            refusal,
-            message: FlatMessage {
-                mti: 0,
-                source: 0,
-                has_destination: 0,
-                destination: 0,
-                has_event: 0,
-                event: 0,
-            },
-            content_at: 0,
-        },
+        Reading::Refused(refusal) => {
+            return FlatReading {
+                refusal,
+                message: FlatMessage {
+                    mti: 0,
+                    source: 0,
+                    has_destination: 0,
+                    destination: 0,
+                    has_event: 0,
+                    event: 0,
+                },
+                content_at: 0,
+            };
+        }
     }
 }
 
@@ -134,6 +138,22 @@ pub extern "C" fn hrislanoth_receive(gateway: Gateway, port: u8, bytes: &[u8]) -
     ensures { λ a. ⌜ refusalKeeps gateway a ⌝ }
 {
     gateway::receive(gateway, port, bytes)
+}
+
+#[no_mangle]
+pub extern "C" fn hrislanoth_receive_lent(
+    head: Head,
+    nodes: &mut [u64],
+    starts: &mut [u64],
+    ports: &mut [u8],
+    sizes: &mut [u8],
+    port: u8,
+    bytes: &[u8],
+) -> LentAnswer
+    ensures { λ a. ⌜ seenLent a (lists (now (nodes .exit)) (now (starts .exit)) (now (ports .exit)) (now (sizes .exit))) ≡ seenOf (lentStep head (lists (now (nodes .entry)) (now (starts .entry)) (now (ports .entry)) (now (sizes .entry))) port (now (bytes .entry))) ⌝ }
+    ensures { λ a. ⌜ lentRefusalKeeps head (lists (now (nodes .entry)) (now (starts .entry)) (now (ports .entry)) (now (sizes .entry))) a (lists (now (nodes .exit)) (now (starts .exit)) (now (ports .exit)) (now (sizes .exit))) ⌝ }
+{
+    gateway::receive_lent(head, nodes, starts, ports, sizes, port, bytes)
 }
 
 #[no_mangle]

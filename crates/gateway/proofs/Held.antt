@@ -17,7 +17,7 @@ use Rattle.gateway_rules.specs.State.{firstPlaces}
 use Rattle.gateway_rules.specs.Step.{lineHolds}
 use Rattle.sets.proofs.Sets.{set-ext, set-of-bits, member-of-set}
 use Rattle.gateway.specs.Answers.{badAt}
-use Rattle.gateway.proofs.Places.{at, any-more, no-places}
+use Rattle.gateway.proofs.Places.{any-more, no-places}
 
 -- ---- a line in bounds
 
@@ -49,19 +49,19 @@ not-held set e l f h =
 
 -- ---- the lines before a place
 
-pub none-yet : (set e : ℕ) (places : List Line) → set < 256 → set ≡ setOf 8 (λ p. inSet set p || any (lineHolds p e) (firstPlaces 0 places))
-none-yet set e places f =
+pub none-yet : (set e : ℕ) (at : ℕ → Line) → set < 256 → set ≡ setOf 8 (λ p. inSet set p || any (lineHolds p e) (firstPlaces 0 at))
+none-yet set e at f =
     sym (set-of-bits 8 set f)
-    ∙ set-ext 8 (inSet set) (λ p. inSet set p || any (lineHolds p e) (firstPlaces 0 places))
-    (λ p _. sym (ap (λ (xs : List Line). inSet set p || any (lineHolds p e) xs) (no-places places) ∙ or-false (inSet set p)))
+    ∙ set-ext 8 (inSet set) (λ p. inSet set p || any (lineHolds p e) (firstPlaces 0 at))
+    (λ p _. sym (ap (λ (xs : List Line). inSet set p || any (lineHolds p e) xs) (no-places at) ∙ or-false (inSet set p)))
 
-pub one-line-more : (set e i wanted : ℕ) (places : List Line)
-    → wanted ≡ setOf 8 (λ p. inSet set p || any (lineHolds p e) (firstPlaces i places))
-    → setOf 8 (λ p. inSet wanted p || lineHolds p e (at places i)) ≡ setOf 8 (λ p. inSet set p || any (lineHolds p e) (firstPlaces (i + 1) places))
-one-line-more set e i wanted places w =
-    let before : ℕ → Bool = λ p. inSet set p || any (lineHolds p e) (firstPlaces i places) in
-    set-ext 8 (λ p. inSet wanted p || lineHolds p e (at places i)) (λ p. inSet set p || any (lineHolds p e) (firstPlaces (i + 1) places))
+pub one-line-more : (set e i wanted : ℕ) (at : ℕ → Line)
+    → wanted ≡ setOf 8 (λ p. inSet set p || any (lineHolds p e) (firstPlaces i at))
+    → setOf 8 (λ p. inSet wanted p || lineHolds p e (at i)) ≡ setOf 8 (λ p. inSet set p || any (lineHolds p e) (firstPlaces (i + 1) at))
+one-line-more set e i wanted at w =
+    let before : ℕ → Bool = λ p. inSet set p || any (lineHolds p e) (firstPlaces i at) in
+    set-ext 8 (λ p. inSet wanted p || lineHolds p e (at i)) (λ p. inSet set p || any (lineHolds p e) (firstPlaces (i + 1) at))
     (λ p l.
-    ap (λ (t : Bool). t || lineHolds p e (at places i)) (ap (λ (x : ℕ). inSet x p) w ∙ member-of-set 8 before p l)
-    ∙ or-assoc (inSet set p) (any (lineHolds p e) (firstPlaces i places)) (lineHolds p e (at places i))
-    ∙ ap (λ (t : Bool). inSet set p || t) (sym (any-more (lineHolds p e) i places)))
+    ap (λ (t : Bool). t || lineHolds p e (at i)) (ap (λ (x : ℕ). inSet x p) w ∙ member-of-set 8 before p l)
+    ∙ or-assoc (inSet set p) (any (lineHolds p e) (firstPlaces i at)) (lineHolds p e (at i))
+    ∙ ap (λ (t : Bool). inSet set p || t) (sym (any-more (lineHolds p e) i at)))

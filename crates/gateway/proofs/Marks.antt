@@ -2,7 +2,6 @@
 use Prim.Native.Nat.{ℕ, _+_, _*_, _/_, _%_, _^_, _≤_, _<_}
 use mathlib.Core.Path.{_≡_, refl, sym, ap, ap₂, _∙_}
 use mathlib.Core.Bool.{Bool, true, false, _||_, or-comm}
-use mathlib.Core.List.{[], _∷_, _++_}
 use native.Mathlib.Nat.{le-trans}
 use native.Mathlib.Omega.{arith}
 use borrow.Author.Tests.{eq-eqb, eqb-false, eqb-true, leb-true, leb-false, le-ltb, lt-ltb, ne-eqb}
@@ -11,12 +10,12 @@ use lib.ListN.{length}
 use lib.Pow.{pow-mono, high}
 use Rattle.sets.specs.Sets.{setOf, inSet}
 use Rattle.gateway_rules.specs.declared.Line.{Line}
-use Rattle.gateway_rules.specs.declared.Table.{Table}
-use Rattle.gateway_rules.specs.declared.Gateway.{Gateway}
-use Rattle.gateway_rules.specs.State.{gateOf}
+use Rattle.gateway_rules.specs.declared.Head.{Head}
+use Rattle.gateway_rules.specs.State.{Lists, gateIn, lineAt}
 use Rattle.gateway_rules.specs.Step.{has, withLines, announce}
 use Rattle.sets.proofs.Sets.{set-below, member-of-set}
-use Rattle.gateway.specs.Answers.{inTable}
+use Rattle.gateway.specs.Answers.{Whole, linesIn, putAt}
+use Rattle.gateway.proofs.Places.{put-last}
 use Rattle.gateway_rules.proofs.Lists.{count-places}
 
 -- ---- the marks with one more
@@ -50,23 +49,24 @@ one-more-mark marks q m l p = go (leb 8 p) refl
 
 -- ---- the three cases
 
-module _ (g : Gateway) (l : Line) where
-  pub known-line : has (inTable (g .table)) l ≡ true → gateOf g ≡ announce (gateOf g) l
-  unfolding announce gateOf
-  known-line t = rw t
+module _ (head : Head) (t : Lists) (l : Line) where
+  pub known-line : has (linesIn (head .count) t) l ≡ true → gateIn head t ≡ announce (gateIn head t) l
+  unfolding announce gateIn
+  known-line y = rw y
 
-  pub added-line : (next : Table) → has (inTable (g .table)) l ≡ false → g .table .count < 256 → inTable next ≡ inTable (g .table) ++ (l ∷ [])
-      → gateOf (record { ports = g .ports; automatic = g .automatic; marks = g .marks; table = next }) ≡ announce (gateOf g) l
-  unfolding announce gateOf
-  added-line next n f e =
-      let room : ltb (length (inTable (g .table))) 256 ≡ true = ap (λ (k : ℕ). ltb k 256) (count-places (g .table .count) (g .table .lines)) ∙ lt-ltb (g .table .count) 256 f in
-      rw (n, room) (ap (withLines (gateOf g)) e)
+  pub added-line : (after : Lists) → Whole t → has (linesIn (head .count) t) l ≡ false → head .count < 256 → after ≡ putAt (head .count) l t
+      → gateIn (record { ports = head .ports; marks = head .marks; automatic = head .automatic; count = head .count + 1 }) after ≡ announce (gateIn head t) l
+  unfolding announce gateIn
+  added-line after w n f e =
+      let room : ltb (length (linesIn (head .count) t)) 256 ≡ true = ap (λ (k : ℕ). ltb k 256) (count-places (head .count) (lineAt t)) ∙ lt-ltb (head .count) 256 f in
+      let lines = ap (linesIn (head .count + 1)) e ∙ put-last (head .count) t l w f in
+      rw (n, room) (ap (withLines (gateIn head t)) lines)
 
-  pub opened-port : (marks : ℕ) → has (inTable (g .table)) l ≡ false → 256 ≤ g .table .count → g .marks < 256 → l .port < 8
-      → marks ≡ setOf 8 (λ p. inSet (g .marks) p || eqb (l .port) p)
-      → gateOf (record { ports = g .ports; automatic = g .automatic; marks = marks; table = g .table }) ≡ announce (gateOf g) l
-  unfolding announce gateOf
+  pub opened-port : (marks : ℕ) → has (linesIn (head .count) t) l ≡ false → 256 ≤ head .count → head .marks < 256 → l .port < 8
+      → marks ≡ setOf 8 (λ p. inSet (head .marks) p || eqb (l .port) p)
+      → gateIn (record { ports = head .ports; marks = marks; automatic = head .automatic; count = head .count }) t ≡ announce (gateIn head t) l
+  unfolding announce gateIn
   opened-port marks n f m q e =
-      let room : ltb (length (inTable (g .table))) 256 ≡ false = ap (λ (k : ℕ). ltb k 256) (count-places (g .table .count) (g .table .lines)) ∙ le-ltb (g .table .count) 256 f in
-      let more : (p : ℕ) → inSet marks p ≡ (eqb p (l .port) || inSet (g .marks) p) = λ p. ap (λ (x : ℕ). inSet x p) e ∙ one-more-mark (g .marks) (l .port) m q p in
-      rw (n, room) (λ i. record { ports = g .ports; automatic = g .automatic; lines = inTable (g .table); marked = λ p. more p i })
+      let room : ltb (length (linesIn (head .count) t)) 256 ≡ false = ap (λ (k : ℕ). ltb k 256) (count-places (head .count) (lineAt t)) ∙ le-ltb (head .count) 256 f in
+      let more : (p : ℕ) → inSet marks p ≡ (eqb p (l .port) || inSet (head .marks) p) = λ p. ap (λ (x : ℕ). inSet x p) e ∙ one-more-mark (head .marks) (l .port) m q p in
+      rw (n, room) (λ i. record { ports = head .ports; automatic = head .automatic; lines = linesIn (head .count) t; marked = λ p. more p i })

@@ -1,80 +1,93 @@
 -- The lines at the first places of a table: one more, one put in, and what holds of any of them.
-use Prim.Native.Nat.{ℕ, zero, suc, _+_, _≤_, _<_}
+use Prim.Native.Nat.{ℕ, zero, suc, _+_, _<_}
 use mathlib.Core.Path.{_≡_, refl, sym, ap, ap₂, _∙_}
 use mathlib.Core.Logic.{⊎-elim}
 use mathlib.Core.Bool.{Bool, true, false, cond, _||_, or-false, or-true}
 use mathlib.Core.List.{List, [], _∷_, _++_, append-nil}
-use native.Mathlib.Nat.{le-refl, le-suc, le-trans, eq-or-lt-of-le, le-of-suc-le-suc, not-suc-le-zero}
+use native.Mathlib.Nat.{eq-or-lt-of-le, le-of-suc-le-suc, not-suc-le-zero}
 use native.Mathlib.Numerals.{add-one}
 use native.Mathlib.Omega.{arith}
-use lib.ListN.{length, getD, set}
+use lib.ListN.{length-set}
 use lib.Seq.{getD-set-same, getD-set-other}
 use Rattle.gateway_rules.specs.declared.Line.{Line}
 use Rattle.sets.specs.Sets.{any}
-use Rattle.gateway_rules.specs.State.{firstPlaces, noLine}
+use Rattle.gateway_rules.specs.State.{Lists, firstPlaces, lineAt}
 use Rattle.gateway_rules.specs.Step.{without}
 use Rattle.sets.proofs.Sets.{any-append}
 use Rattle.gateway_rules.proofs.OwnLines.{without-append}
+use Rattle.gateway_rules.proofs.Lists.{first-same}
+use Rattle.gateway.specs.Answers.{Whole, linesIn, putAt}
 
-abbrev pub at : List Line → ℕ → Line
-at places i = getD places i noLine
-
-pub no-places : (places : List Line) → firstPlaces 0 places ≡ []
+pub no-places : (at : ℕ → Line) → firstPlaces 0 at ≡ []
 unfolding firstPlaces
-no-places places = refl
+no-places at = refl
 
-pub one-more : (n : ℕ) (places : List Line) → firstPlaces (n + 1) places ≡ firstPlaces n places ++ (at places n ∷ [])
+pub one-more : (n : ℕ) (at : ℕ → Line) → firstPlaces (n + 1) at ≡ firstPlaces n at ++ (at n ∷ [])
 unfolding firstPlaces
-one-more n places = ap (λ (k : ℕ). firstPlaces k places) (add-one n)
+one-more n at = ap (λ (k : ℕ). firstPlaces k at) (add-one n)
 
-pub any-more : (test : Line → Bool) (n : ℕ) (places : List Line) → any test (firstPlaces (n + 1) places) ≡ (any test (firstPlaces n places) || test (at places n))
-any-more test n places =
-    ap (any test) (one-more n places)
-    ∙ any-append test (firstPlaces n places) (at places n ∷ [])
-    ∙ ap (λ (t : Bool). any test (firstPlaces n places) || t) (or-false (test (at places n)))
+pub any-more : (test : Line → Bool) (n : ℕ) (at : ℕ → Line) → any test (firstPlaces (n + 1) at) ≡ (any test (firstPlaces n at) || test (at n))
+any-more test n at =
+    ap (any test) (one-more n at)
+    ∙ any-append test (firstPlaces n at) (at n ∷ [])
+    ∙ ap (λ (t : Bool). any test (firstPlaces n at) || t) (or-false (test (at n)))
 
-without-more : (test : Line → Bool) (n : ℕ) (places : List Line)
-    → without test (firstPlaces (n + 1) places) ≡ without test (firstPlaces n places) ++ cond (test (at places n)) [] (at places n ∷ [])
-without-more test n places = ap (without test) (one-more n places) ∙ without-append test (firstPlaces n places) (at places n ∷ [])
+without-more : (test : Line → Bool) (n : ℕ) (at : ℕ → Line)
+    → without test (firstPlaces (n + 1) at) ≡ without test (firstPlaces n at) ++ cond (test (at n)) [] (at n ∷ [])
+without-more test n at = ap (without test) (one-more n at) ∙ without-append test (firstPlaces n at) (at n ∷ [])
 
-pub left-out : (test : Line → Bool) (n : ℕ) (places : List Line) → test (at places n) ≡ true → without test (firstPlaces (n + 1) places) ≡ without test (firstPlaces n places)
-left-out test n places e =
-    let rest = without test (firstPlaces n places) in
-    without-more test n places ∙ ap (λ (t : Bool). rest ++ cond t [] (at places n ∷ [])) e ∙ append-nil rest
+pub left-out : (test : Line → Bool) (n : ℕ) (at : ℕ → Line) → test (at n) ≡ true → without test (firstPlaces (n + 1) at) ≡ without test (firstPlaces n at)
+left-out test n at e =
+    let rest = without test (firstPlaces n at) in
+    without-more test n at ∙ ap (λ (t : Bool). rest ++ cond t [] (at n ∷ [])) e ∙ append-nil rest
 
-pub kept-on : (test : Line → Bool) (n : ℕ) (places : List Line)
-    → test (at places n) ≡ false
-    → without test (firstPlaces (n + 1) places) ≡ without test (firstPlaces n places) ++ (at places n ∷ [])
-kept-on test n places e = without-more test n places ∙ ap (λ (t : Bool). without test (firstPlaces n places) ++ cond t [] (at places n ∷ [])) e
+pub kept-on : (test : Line → Bool) (n : ℕ) (at : ℕ → Line)
+    → test (at n) ≡ false
+    → without test (firstPlaces (n + 1) at) ≡ without test (firstPlaces n at) ++ (at n ∷ [])
+kept-on test n at e = without-more test n at ∙ ap (λ (t : Bool). without test (firstPlaces n at) ++ cond t [] (at n ∷ [])) e
 
 -- ---- one of them
 
-pub any-at : (test : Line → Bool) (n : ℕ) (places : List Line) (i : ℕ) → i < n → test (at places i) ≡ true → any test (firstPlaces n places) ≡ true
+pub any-at : (test : Line → Bool) (n : ℕ) (at : ℕ → Line) (i : ℕ) → i < n → test (at i) ≡ true → any test (firstPlaces n at) ≡ true
 unfolding firstPlaces
-any-at test zero places i l t = absurd (not-suc-le-zero l)
-any-at test (suc n) places i l t =
-    any-append test (firstPlaces n places) (at places n ∷ [])
+any-at test zero at i l t = absurd (not-suc-le-zero l)
+any-at test (suc n) at i l t =
+    any-append test (firstPlaces n at) (at n ∷ [])
     ∙ ⊎-elim
-    (λ e. let here : test (at places n) ≡ true = sym (ap (λ (k : ℕ). test (at places k)) e) ∙ t in rw here (or-true (any test (firstPlaces n places))))
-    (λ k. let here = any-at test n places i k t in rw here)
+    (λ e. let here : test (at n) ≡ true = sym (ap (λ (k : ℕ). test (at k)) e) ∙ t in rw here (or-true (any test (firstPlaces n at))))
+    (λ k. let here = any-at test n at i k t in rw here)
     (eq-or-lt-of-le (le-of-suc-le-suc l))
 
-pub none-at : (test : Line → Bool) (n : ℕ) (places : List Line) (i : ℕ) → any test (firstPlaces n places) ≡ false → i < n → test (at places i) ≡ false
-none-at test n places i e l = go (test (at places i)) refl
-  where
-    go : (t : Bool) → test (at places i) ≡ t → t ≡ false
-    go true s = sym (any-at test n places i l s) ∙ e
-    go false s = refl
+-- What the code's test of a line that it took out tells of the place.
+pub line-tells : (test : Line → Bool) (place : Line) {l : Line} {told is : Bool} → l ≡ place → told ≡ test l → told ≡ is → test place ≡ is
+line-tells test place taken tells it = sym (ap test taken) ∙ sym tells ∙ it
 
 -- ---- a place written
 
-past-places : (n : ℕ) (places : List Line) (j : ℕ) (x : Line) → n ≤ j → firstPlaces n (set places j x) ≡ firstPlaces n places
-unfolding firstPlaces
-past-places zero places j x l = refl
-past-places (suc n) places j x l =
-    ap₂ (λ (xs : List Line) (y : Line). xs ++ (y ∷ [])) (past-places n places j x (le-trans (le-suc n) l)) (getD-set-other places j n x noLine (λ z. omega (arith, z, l)))
+put-there : (t : Lists) (i : ℕ) (l : Line) → Whole t → i < 256 → lineAt (putAt i l t) i ≡ l
+put-there t i l w b = λ z. record {
+  port = getD-set-same (t .ports) i (l .port) 0 (omega (arith, b, w .2)) z;
+  node = getD-set-same (t .nodes) i (l .node) 0 (omega (arith, b, w .0)) z;
+  block = record {
+    start = getD-set-same (t .starts) i (l .block .start) 0 (omega (arith, b, w .1)) z;
+    k = getD-set-same (t .sizes) i (l .block .k) 0 (omega (arith, b, w .3)) z;
+  };
+}
 
-pub put-last : (n : ℕ) (places : List Line) (x : Line) → n < length places → firstPlaces (n + 1) (set places n x) ≡ firstPlaces n places ++ (x ∷ [])
-put-last n places x l =
-    one-more n (set places n x)
-    ∙ ap₂ (λ (xs : List Line) (y : Line). xs ++ (y ∷ [])) (past-places n places n x (le-refl n)) (getD-set-same places n x noLine l)
+pub put-elsewhere : (t : Lists) (i : ℕ) (l : Line) (n : ℕ) → (n ≡ i → ⊥) → lineAt (putAt i l t) n ≡ lineAt t n
+put-elsewhere t i l n other = λ z. record {
+  port = getD-set-other (t .ports) i n (l .port) 0 other z;
+  node = getD-set-other (t .nodes) i n (l .node) 0 other z;
+  block = record { start = getD-set-other (t .starts) i n (l .block .start) 0 other z; k = getD-set-other (t .sizes) i n (l .block .k) 0 other z };
+}
+
+pub put-whole : (t : Lists) (i : ℕ) (l : Line) → Whole t → Whole (putAt i l t)
+put-whole t i l w = (length-set (t .nodes) i (l .node) ∙ w .0, length-set (t .starts) i (l .block .start) ∙ w .1, length-set (t .ports) i (l .port) ∙ w .2, length-set (t .sizes) i (l .block .k) ∙ w .3)
+
+-- One more line, put behind the first n.
+pub put-last : (n : ℕ) (t : Lists) (l : Line) → Whole t → n < 256 → linesIn (n + 1) (putAt n l t) ≡ linesIn n t ++ (l ∷ [])
+put-last n t l w b =
+    one-more n (lineAt (putAt n l t))
+    ∙ ap₂ (λ (xs : List Line) (y : Line). xs ++ (y ∷ []))
+    (first-same n (lineAt (putAt n l t)) (lineAt t) (λ i k. put-elsewhere t n l i (λ e. omega (arith, e, k))))
+    (put-there t n l w b)

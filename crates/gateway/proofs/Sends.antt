@@ -11,14 +11,15 @@ use Rattle.message.specs.declared.Field.the-variants.{Absent}
 use Rattle.message.specs.declared.Announcement.{Announcement}
 use Rattle.message.specs.declared.Announcement.the-variants.{Nothing}
 use Rattle.message.specs.declared.Message.{Message}
+use Rattle.message.specs.declared.Reading.the-variants.{Read}
 use Rattle.message.specs.Mti.{isRestart, isReport, kindOf}
 use Rattle.message.specs.Announcing.{announced, announcementOf}
-use Rattle.gateway_rules.specs.declared.Gateway.{Gateway}
-use Rattle.gateway_rules.specs.State.{Gate, gateOf}
+use Rattle.gateway_rules.specs.declared.Head.{Head}
+use Rattle.gateway_rules.specs.State.{Gate, Lists, gateIn}
 use Rattle.sets.specs.Sets.{setOf, inSet}
 use Rattle.gateway_rules.specs.Step.{wantsReport, goesTo, taken, restart, hear}
 use Rattle.sets.proofs.Sets.{member-of-set, set-ext}
-use Rattle.gateway.specs.Answers.{sortOf}
+use Rattle.gateway.specs.Answers.{sortOf, wantedBy}
 
 -- ---- sorts
 
@@ -48,14 +49,17 @@ restart-sort k e = let sorted = by-sort k Absent in (sorted .0 ∙ ap (λ (n : �
 other-sort : (k : Kind) → (sortOf k ≡ 1 → ⊥) → (sortOf k ≡ 2 → ⊥) → (isReport k ≡ false) × (isRestart k ≡ false)
 other-sort k f g = let sorted = by-sort k Absent in (sorted .0 ∙ ne-eqb (sortOf k) 1 f, sorted .1 ∙ ne-eqb (sortOf k) 2 g)
 
+pub is-report : (k : Kind) → sortOf k ≡ 1 → isReport k ≡ true
+is-report k e = by-sort k Absent .0 ∙ eq-eqb (sortOf k) 1 e
+
+pub is-no-report : (k : Kind) → (sortOf k ≡ 1 → ⊥) → isReport k ≡ false
+is-no-report k f = by-sort k Absent .0 ∙ ne-eqb (sortOf k) 1 f
+
 -- ---- every port
 
 pub every : setOf 8 (λ _. true) ≡ 255
 unfolding setOf
 every = refl
-
-every-in : (p : ℕ) → p < 8 → inSet 255 p ≡ true
-every-in p l = ap (λ (x : ℕ). inSet x p) (sym every) ∙ member-of-set 8 (λ _. true) p l
 
 -- ---- where it goes
 
@@ -63,9 +67,9 @@ abbrev but : ℕ → ℕ → (ℕ → Bool) → ℕ
 but ports port want = setOf 8 (λ p. ltb p ports && (not (eqb p port) && want p))
 
 -- The port count is that of the code's state.
-pub by-ports : (g : Gateway) (q set : ℕ) → but (g .ports) q (inSet set) ≡ but (gateOf g .ports) q (inSet set)
-unfolding gateOf
-by-ports g q set = refl
+pub by-ports : (head : Head) (t : Lists) (q set : ℕ) → but (head .ports) q (inSet set) ≡ but (gateIn head t .ports) q (inSet set)
+unfolding gateIn
+by-ports head t q set = refl
 
 goes-by : (g : Gate) (q : ℕ) (m : Message) (set : ℕ)
     → ((p : ℕ) → p < 8 → inSet set p ≡ cond (isReport (kindOf (m .mti))) (wantsReport g p (m .event)) true)
@@ -75,26 +79,11 @@ goes-by g q m set h =
     set-ext 8 (λ p. ltb p (g .ports) && (not (eqb p q) && inSet set p)) (goesTo g q m)
     (λ p l. ap (λ (t : Bool). ltb p (g .ports) && (not (eqb p q) && t)) (h p l))
 
-pub report-goes : (g : Gate) (q : ℕ) (m : Message) (set : ℕ) → sortOf (kindOf (m .mti)) ≡ 1
-    → set ≡ setOf 8 (λ p. wantsReport g p (m .event)) → but (g .ports) q (inSet set) ≡ setOf 8 (goesTo g q m)
-report-goes g q m set s e =
-    let kind = report-sort (kindOf (m .mti)) (m .event) s .0 in
+-- Where a message that these ports want goes.
+pub goes-wanted : (g : Gate) (q : ℕ) (m : Message) (set : ℕ) → set ≡ wantedBy g (Read m) → but (g .ports) q (inSet set) ≡ setOf 8 (goesTo g q m)
+goes-wanted g q m set e =
     goes-by g q m set
-    (λ p l.
-    ap (λ (x : ℕ). inSet x p) e
-    ∙ member-of-set 8 (λ p. wantsReport g p (m .event)) p l
-    ∙ sym (ap (λ (t : Bool). cond t (wantsReport g p (m .event)) true) kind))
-
-other-goes : (g : Gate) (q : ℕ) (m : Message) → isReport (kindOf (m .mti)) ≡ false → but (g .ports) q (inSet 255) ≡ setOf 8 (goesTo g q m)
-other-goes g q m kind =
-    goes-by g q m 255 (λ p l. every-in p l ∙ sym (ap (λ (t : Bool). cond t (wantsReport g p (m .event)) true) kind))
-
-pub restart-goes : (g : Gate) (q : ℕ) (m : Message) → sortOf (kindOf (m .mti)) ≡ 2 → but (g .ports) q (inSet 255) ≡ setOf 8 (goesTo g q m)
-restart-goes g q m s = other-goes g q m (restart-sort (kindOf (m .mti)) s .0)
-
-pub rest-goes : (g : Gate) (q : ℕ) (m : Message) → (sortOf (kindOf (m .mti)) ≡ 1 → ⊥) → (sortOf (kindOf (m .mti)) ≡ 2 → ⊥)
-    → but (g .ports) q (inSet 255) ≡ setOf 8 (goesTo g q m)
-rest-goes g q m f h = other-goes g q m (other-sort (kindOf (m .mti)) f h .0)
+    (λ p l. ap (λ (x : ℕ). inSet x p) e ∙ member-of-set 8 (λ p. cond (isReport (kindOf (m .mti))) (wantsReport g p (m .event)) true) p l)
 
 -- ---- what it changes
 

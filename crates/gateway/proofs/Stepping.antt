@@ -10,8 +10,8 @@ use Rattle.message.specs.declared.Reading.{Reading}
 use Rattle.message.specs.declared.Reading.the-variants.{Read, Refused}
 use Rattle.message.specs.Reading.{messageIn, readTests, readOf}
 use Rattle.message.specs.Refusals.{firstOf, answered}
-use Rattle.gateway_rules.specs.declared.Gateway.{Gateway}
-use Rattle.gateway_rules.specs.State.{Gate, gateOf, outOfBounds}
+use Rattle.gateway_rules.specs.declared.Head.{Head}
+use Rattle.gateway_rules.specs.State.{Gate, Lists, gateIn, outOfBounds}
 use Rattle.gateway_rules.specs.Step.{Outcome, taking, refusing, step}
 use Rattle.gateway.specs.Answers.{seenOf}
 
@@ -35,15 +35,15 @@ step-reads : (g : Gate) (q : ℕ) (bytes : List ℕ) → outOfBounds g ≡ false
 unfolding step readOf
 step-reads g q bytes o p = rw (o, p) (by-number g q (firstOf (readTests bytes)) (messageIn bytes))
 
-pub ports-reached : (g : Gateway) (q : ℕ) → g .ports ≤ q → leb (gateOf g .ports) q ≡ true
-unfolding gateOf
-ports-reached g q l = le-leb (g .ports) q l
+pub ports-reached : (head : Head) (t : Lists) (q : ℕ) → head .ports ≤ q → leb (gateIn head t .ports) q ≡ true
+unfolding gateIn
+ports-reached head t q l = le-leb (head .ports) q l
 
-ports-missed : (g : Gateway) (q : ℕ) → q < g .ports → leb (gateOf g .ports) q ≡ false
-unfolding gateOf
-ports-missed g q l = lt-leb (g .ports) q l
+ports-missed : (head : Head) (t : Lists) (q : ℕ) → q < head .ports → leb (gateIn head t .ports) q ≡ false
+unfolding gateIn
+ports-missed head t q l = lt-leb (head .ports) q l
 
 -- What the step gives once the bytes are known to read as r.
-pub step-at-reading : (g : Gateway) (q : ℕ) (bytes : List ℕ) (r : Reading) → outOfBounds (gateOf g) ≡ false → q < g .ports → readOf bytes ≡ r
-    → seenOf (reading (gateOf g) q r) ≡ seenOf (step (gateOf g) q bytes)
-step-at-reading g q bytes r o l e = sym (ap seenOf (step-reads (gateOf g) q bytes o (ports-missed g q l) ∙ ap (reading (gateOf g) q) e))
+pub step-at-reading : (head : Head) (t : Lists) (q : ℕ) (bytes : List ℕ) (r : Reading) → outOfBounds (gateIn head t) ≡ false → q < head .ports → readOf bytes ≡ r
+    → seenOf (reading (gateIn head t) q r) ≡ seenOf (step (gateIn head t) q bytes)
+step-at-reading head t q bytes r o l e = sym (ap seenOf (step-reads (gateIn head t) q bytes o (ports-missed head t q l) ∙ ap (reading (gateIn head t) q) e))

@@ -5,33 +5,28 @@ ghost use mathlib.Core.Bool.{_&&_};
 ghost use lib.Dec.{eqb, leb};
 ghost use Rattle.range.specs.Range.{bit};
 ghost use Rattle.sets.specs.Sets.{any, anyBelow};
-ghost use Rattle.gateway_rules.specs.State.{badPorts, badAutomatic, firstPlaces, gateOf, outOfBounds};
-ghost use Rattle.gateway.specs.Answers.{badAt};
-use gateway_rules::Gateway;
+ghost use Rattle.gateway_rules.specs.State.{badPorts, badAutomatic, lists};
+ghost use Rattle.gateway.specs.Answers.{Whole, badAt, badHead, linesIn};
+use crate::lines;
+use gateway_rules::Head;
 use gateway_rules::Line;
-use gateway_rules::Table;
 use range::Block;
 
-pub(crate) fn out_of_bounds(gateway: Gateway) -> bool
-    ensures { λ yes. ⌜ yes ≡ outOfBounds (gateOf gateway) ⌝ }
+// All but the lines.
+pub(crate) fn bad_head(head: Head) -> bool
+    ensures { λ yes. ⌜ yes ≡ badHead head ⌝ }
 {
-    let ports = gateway.ports;
-    let marks = gateway.marks;
-    let automatic = gateway.automatic;
-    let table = gateway.table;
-    if bad_ports(ports) {
+    let automatic = head.automatic;
+    if bad_ports(head.ports) {
         return true;
     }
-    if 256 < table.count {
+    if 256 < head.count {
         return true;
     }
-    if stray_mark(marks, ports) {
+    if stray_mark(head.marks, head.ports) {
         return true;
     }
-    if bad_automatic(automatic) {
-        return true;
-    }
-    bad_lines(table, ports)
+    bad_automatic(automatic)
 }
 
 pub(crate) fn bad_ports(ports: u8) -> bool
@@ -69,23 +64,30 @@ fn bad_automatic(b: Block) -> bool
     !range::is_block(b)
 }
 
-fn bad_lines(table: Table, ports: u8) -> bool
-    requires { ⌜ table .count ≤ 256 ⌝ }
-    ensures { λ yes. ⌜ yes ≡ any (badAt ports) (firstPlaces (table .count) (table .lines)) ⌝ }
+pub(crate) fn bad_lines(
+    count: usize,
+    nodes: &[u64],
+    starts: &[u64],
+    ports: &[u8],
+    sizes: &[u8],
+    below: u8,
+) -> bool
+    requires { ⌜ count ≤ 256 ⌝ }
+    requires { ⌜ Whole (lists (now nodes) (now starts) (now ports) (now sizes)) ⌝ }
+    ensures { λ yes. ⌜ yes ≡ any (badAt below) (linesIn count (lists (now (nodes .entry)) (now (starts .entry)) (now (ports .entry)) (now (sizes .entry)))) ⌝ }
 {
-    let count = table.count;
     let mut i = 0;
     while i < count {
-        let l = table.lines[i];
+        let l = lines::line_at(nodes, starts, ports, sizes, i);
         i += 1;
-        if bad_line(l, ports) {
+        if bad_line(l, below) {
             return true;
         }
     }
     false
 }
 
-fn bad_line(l: Line, ports: u8) -> bool
+pub(crate) fn bad_line(l: Line, ports: u8) -> bool
     ensures { λ yes. ⌜ yes ≡ badAt ports l ⌝ }
 {
     let block = l.block;

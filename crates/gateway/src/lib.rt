@@ -1,18 +1,18 @@
-// The box: a state by value goes in with a port and bytes, and comes back with where they go.
+// The box: a state goes in with a port and bytes, and comes back with where they go.
 mod bounds;
+mod lent;
 mod lines;
-mod ports;
+mod pass;
+mod port_sets;
 mod step;
 
 ghost use mathlib.Core.Path.{_≡_};
 ghost use Rattle.gateway_rules.specs.State.{gateOf, startOf};
-ghost use Rattle.gateway_rules.specs.Step.{start as startedBy, step as stepOf, refusing};
-ghost use Rattle.gateway.specs.Answers.{seenIn, seenOf, numberOf, refusalKeeps};
+ghost use Rattle.gateway_rules.specs.Step.{start as startedBy, step as stepOf};
+ghost use Rattle.gateway.specs.Answers.{seenIn, seenOf, refusalKeeps};
 use gateway_rules::Gateway;
-use gateway_rules::Line;
-use gateway_rules::Table;
-use message::Reading;
-use range::Block;
+use gateway_rules::Head;
+pub use lent::receive_lent;
 
 // The refusal or 0, the set of ports it is sent to, bit p for port p, and the next state.
 #[repr(C)]
@@ -22,70 +22,78 @@ pub struct Answer {
     pub gateway: Gateway,
 }
 
+// The same where the lines stand in lent lists.
+#[repr(C)]
+pub struct LentAnswer {
+    pub refusal: u8,
+    pub sent: u8,
+    pub head: Head,
+}
+
 // A gateway without lines and open marks, with the block of the number given.
 pub fn start(ports: u8, r: u64) -> Answer
     ensures { λ a. ⌜ seenIn a ≡ seenOf (startedBy ports r) ⌝ }
 {
     if bounds::bad_ports(ports) {
-        return refused(empty(0, r), 8);
+        return Answer {
+            refusal: 8,
+            sent: 0,
+            gateway: empty(0, r),
+        };
     }
-    refused(empty(ports, r), 0)
-}
-
-// A message at a port.
-pub fn receive(gateway: Gateway, port: u8, bytes: &[u8]) -> Answer
-    ensures { λ a. ⌜ seenIn a ≡ seenOf (stepOf (gateOf gateway) port (now (bytes .entry))) ⌝ }
-    ensures { λ a. ⌜ refusalKeeps gateway a ⌝ }
-{
-    if bounds::out_of_bounds(gateway) {
-        return refused(gateway, 7);
-    }
-    if gateway.ports <= port {
-        return refused(gateway, 8);
-    }
-    let reading = message::read(bytes);
-    let Reading::Read(m) = reading else {
-        return refused(gateway, number_in(reading));
-    };
-    step::take(gateway, port, m)
-}
-
-// Sent nowhere, with the state as it was.
-fn refused(gateway: Gateway, number: u8) -> Answer
-    ensures { λ a. ⌜ seenIn a ≡ seenOf (refusing (gateOf gateway) number) ⌝ }
-    ensures { λ a. ⌜ a .gateway ≡ gateway ⌝ }
-{
     Answer {
-        refusal: number,
+        refusal: 0,
         sent: 0,
-        gateway,
-    }
-}
-
-fn number_in(reading: Reading) -> u8
-    ensures { λ n. ⌜ n ≡ numberOf reading ⌝ }
-{
-    match reading {
-        Reading::Read(_) => 0,
-        Reading::Refused(n) => n,
+        gateway: empty(ports, r),
     }
 }
 
 fn empty(ports: u8, r: u64) -> Gateway
     ensures { λ g. ⌜ gateOf g ≡ startOf ports r ⌝ }
 {
-    let blank = Line {
-        port: 0,
-        node: 0,
-        block: Block { start: 0, k: 0 },
-    };
     Gateway {
-        ports,
-        automatic: range::block_of(r),
-        marks: 0,
-        table: Table {
-            lines: [blank; 256],
+        head: Head {
+            ports,
+            marks: 0,
+            automatic: range::block_of(r),
             count: 0,
+        },
+        nodes: [0; 256],
+        starts: [0; 256],
+        ports: [0; 256],
+        sizes: [0; 256],
+    }
+}
+
+// A message at a port. The state by value: its lists are lent, and given back in the answer.
+pub fn receive(gateway: Gateway, port: u8, bytes: &[u8]) -> Answer
+    ensures { λ a. ⌜ seenIn a ≡ seenOf (stepOf (gateOf gateway) port (now (bytes .entry))) ⌝ }
+    ensures { λ a. ⌜ refusalKeeps gateway a ⌝ }
+{
+    let head = gateway.head;
+    let mut nodes = gateway.nodes;
+    let mut starts = gateway.starts;
+    let mut ports = gateway.ports;
+    let mut sizes = gateway.sizes;
+    let a = receive_lent(
+        head,
+        &mut nodes,
+        &mut starts,
+        &mut ports,
+        &mut sizes,
+        port,
+        bytes,
+    );
+    let after = a.head;
+    Answer {
+        refusal: a.refusal,
+        sent: a.sent,
+        gateway: Gateway {
+            head: after,
+            nodes,
+            starts,
+            ports,
+            sizes,
         },
     }
 }

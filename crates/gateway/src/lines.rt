@@ -1,25 +1,62 @@
-// The lines of the table.
+// The lines of the table, which stand in four lists.
 ghost use mathlib.Core.Path.{_≡_};
-ghost use mathlib.Core.Bool.{false, _||_};
-ghost use mathlib.Core.List.{[], _∷_, _++_};
-ghost use Prim.Native.Nat.{_+_, _≤_, _<_};
-ghost use Rattle.sets.specs.Sets.{any, setOf, inSet};
-ghost use Rattle.gateway_rules.specs.Step.{sameLine, has as hasLine, ownedAt, without, lineHolds};
-ghost use Rattle.gateway.specs.Answers.{inTable, badAt};
-use crate::ports;
+ghost use Prim.Native.Nat.{_≤_, _<_};
+ghost use Rattle.gateway_rules.specs.State.{lineAt, lists};
+ghost use Rattle.gateway_rules.specs.Step.{sameLine, has as hasLine, ownedAt, without};
+ghost use Rattle.gateway.specs.Answers.{Whole, linesIn, putAt};
 use gateway_rules::Line;
-use gateway_rules::Table;
-use range::Answer;
+use range::Block;
+
+pub(crate) fn line_at(nodes: &[u64], starts: &[u64], ports: &[u8], sizes: &[u8], i: usize) -> Line
+    requires { ⌜ Whole (lists (now nodes) (now starts) (now ports) (now sizes)) ⌝ }
+    requires { ⌜ i < 256 ⌝ }
+    ensures { λ l. ⌜ l ≡ lineAt (lists (now (nodes .entry)) (now (starts .entry)) (now (ports .entry)) (now (sizes .entry))) i ⌝ }
+{
+    Line {
+        port: ports[i],
+        node: nodes[i],
+        block: Block {
+            start: starts[i],
+            k: sizes[i],
+        },
+    }
+}
+
+pub(crate) fn put_line(
+    nodes: &mut [u64],
+    starts: &mut [u64],
+    ports: &mut [u8],
+    sizes: &mut [u8],
+    i: usize,
+    l: Line,
+)
+    requires { ⌜ Whole (lists (now nodes) (now starts) (now ports) (now sizes)) ⌝ }
+    requires { ⌜ i < 256 ⌝ }
+    ensures { λ _. ⌜ lists (now (nodes .exit)) (now (starts .exit)) (now (ports .exit)) (now (sizes .exit)) ≡ putAt i l (lists (now (nodes .entry)) (now (starts .entry)) (now (ports .entry)) (now (sizes .entry))) ⌝ }
+{
+    let block = l.block;
+    nodes[i] = l.node;
+    starts[i] = block.start;
+    ports[i] = l.port;
+    sizes[i] = block.k;
+}
 
 // Whether a line is there.
-pub(crate) fn has(table: Table, l: Line) -> bool
-    requires { ⌜ table .count ≤ 256 ⌝ }
-    ensures { λ yes. ⌜ yes ≡ hasLine (inTable table) l ⌝ }
+pub(crate) fn has(
+    count: usize,
+    nodes: &[u64],
+    starts: &[u64],
+    ports: &[u8],
+    sizes: &[u8],
+    l: Line,
+) -> bool
+    requires { ⌜ count ≤ 256 ⌝ }
+    requires { ⌜ Whole (lists (now nodes) (now starts) (now ports) (now sizes)) ⌝ }
+    ensures { λ yes. ⌜ yes ≡ hasLine (linesIn count (lists (now (nodes .entry)) (now (starts .entry)) (now (ports .entry)) (now (sizes .entry)))) l ⌝ }
 {
-    let count = table.count;
     let mut i = 0;
     while i < count {
-        let x = table.lines[i];
+        let x = line_at(nodes, starts, ports, sizes, i);
         i += 1;
         if same_line(l, x) {
             return true;
@@ -45,38 +82,32 @@ fn same_line(a: Line, b: Line) -> bool
     x.k == y.k
 }
 
-// The table with a line added at the end.
-pub(crate) fn with_line(table: Table, l: Line) -> Table
-    requires { ⌜ table .count < 256 ⌝ }
-    ensures { λ t. ⌜ inTable t ≡ inTable table ++ (l ∷ []) ⌝ }
+// Takes a node's lines at a port out, and answers how many stay: one pass, the rest keeping their order.
+pub(crate) fn without_owned(
+    count: usize,
+    nodes: &mut [u64],
+    starts: &mut [u64],
+    ports: &mut [u8],
+    sizes: &mut [u8],
+    port: u8,
+    node: u64,
+) -> usize
+    requires { ⌜ count ≤ 256 ⌝ }
+    requires { ⌜ Whole (lists (now nodes) (now starts) (now ports) (now sizes)) ⌝ }
+    ensures { λ kept. ⌜ linesIn kept (lists (now (nodes .exit)) (now (starts .exit)) (now (ports .exit)) (now (sizes .exit))) ≡ without (ownedAt port node) (linesIn count (lists (now (nodes .entry)) (now (starts .entry)) (now (ports .entry)) (now (sizes .entry)))) ⌝ }
 {
-    let mut next = table;
-    let at = next.count;
-    next.lines[at] = l;
-    next.count = at + 1;
-    next
-}
-
-// The table without a node's lines at a port: one pass, the rest keeping their order.
-pub(crate) fn without_owned(table: Table, port: u8, node: u64) -> Table
-    requires { ⌜ table .count ≤ 256 ⌝ }
-    ensures { λ t. ⌜ inTable t ≡ without (ownedAt port node) (inTable table) ⌝ }
-{
-    let mut kept = table;
-    let count = table.count;
     let mut i = 0;
     let mut j = 0;
     while i < count {
-        let l = table.lines[i];
+        let l = line_at(nodes, starts, ports, sizes, i);
         i += 1;
         if owned(l, port, node) {
             continue;
         }
-        kept.lines[j] = l;
+        put_line(nodes, starts, ports, sizes, j, l);
         j += 1;
     }
-    kept.count = j;
-    kept
+    j
 }
 
 fn owned(l: Line, port: u8, node: u64) -> bool
@@ -86,34 +117,4 @@ fn owned(l: Line, port: u8, node: u64) -> bool
         return false;
     }
     l.node == node
-}
-
-// The ports of a set, and those that have a line that holds the event: one pass over the table.
-pub(crate) fn holding(table: Table, e: u64, set: u8) -> u8
-    requires { ⌜ table .count ≤ 256 ⌝ }
-    requires { ⌜ any (badAt 8) (inTable table) ≡ false ⌝ }
-    ensures { λ r. ⌜ r ≡ setOf 8 (λ p. inSet set p || any (lineHolds p e) (inTable table)) ⌝ }
-{
-    let count = table.count;
-    let mut wanted = set;
-    let mut place = 0;
-    while place < count {
-        let l = table.lines[place];
-        place += 1;
-        wanted = held_by(wanted, l, e);
-    }
-    wanted
-}
-
-fn held_by(set: u8, l: Line, e: u64) -> u8
-    requires { ⌜ badAt 8 l ≡ false ⌝ }
-    ensures { λ r. ⌜ r ≡ setOf 8 (λ p. inSet set p || lineHolds p e l) ⌝ }
-{
-    let block = l.block;
-    let port = l.port;
-    match range::holds(block, e) {
-        Answer::Yes => ports::with_port(set, port),
-        Answer::No => set,
-        Answer::NoBlock => set,
-    }
 }

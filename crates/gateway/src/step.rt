@@ -1,58 +1,57 @@
-// An accepted message: where it goes, and what it changes.
+// What an accepted message changes.
 ghost use mathlib.Core.Path.{_≡_};
 ghost use mathlib.Core.Bool.{false};
 ghost use Prim.Native.Nat.{_<_};
-ghost use Rattle.gateway_rules.specs.State.{gateOf, outOfBounds};
-ghost use Rattle.sets.specs.Sets.{setOf};
-ghost use Rattle.gateway_rules.specs.Step.{announce as announceTo, hear as hearAt, restart as restartOf, taking, wantsReport};
-ghost use Rattle.gateway.specs.Answers.{seenIn, seenOf, sortOf};
-use crate::Answer;
+ghost use Rattle.gateway_rules.specs.State.{gateIn, lists, outOfBounds};
+ghost use Rattle.gateway_rules.specs.Step.{announce as announceTo, hear as hearAt, restart as restartOf, taken as takenBy};
+ghost use Rattle.gateway.specs.Answers.{Whole, sortOf};
 use crate::lines;
-use crate::ports;
-use gateway_rules::Gateway;
+use crate::port_sets;
+use gateway_rules::Head;
 use gateway_rules::Line;
 use message::Announcement;
-use message::Field;
 use message::Kind;
 use message::Message;
 
-const EVERY: u8 = 255;
-
-// The step on a state in bounds. A report changes nothing, so its way is the short one.
-pub(crate) fn take(gateway: Gateway, port: u8, m: Message) -> Answer
-    requires { ⌜ outOfBounds (gateOf gateway) ≡ false ⌝ }
-    requires { ⌜ port < gateway .ports ⌝ }
-    ensures { λ a. ⌜ seenIn a ≡ seenOf (taking (gateOf gateway) port m) ⌝ }
+// The state after it. A report changes nothing, so its way is the short one.
+pub(crate) fn taken(
+    head: Head,
+    nodes: &mut [u64],
+    starts: &mut [u64],
+    ports: &mut [u8],
+    sizes: &mut [u8],
+    port: u8,
+    m: Message,
+) -> Head
+    requires { ⌜ Whole (lists (now nodes) (now starts) (now ports) (now sizes)) ⌝ }
+    requires { ⌜ outOfBounds (gateIn head (lists (now nodes) (now starts) (now ports) (now sizes))) ≡ false ⌝ }
+    requires { ⌜ port < head .ports ⌝ }
+    ensures { λ h. ⌜ gateIn h (lists (now (nodes .exit)) (now (starts .exit)) (now (ports .exit)) (now (sizes .exit))) ≡ takenBy (gateIn head (lists (now (nodes .entry)) (now (starts .entry)) (now (ports .entry)) (now (sizes .entry)))) port m ⌝ }
 {
     let meaning = message::meaning_of(m.mti);
     let kind = meaning.kind;
-    let event = m.event;
     let sort = sort_of(kind);
     if sort == 1 {
-        let wanted = wanted_at(gateway, event);
-        return Answer {
-            refusal: 0,
-            sent: ports::others(wanted, gateway.ports, port),
-            gateway,
-        };
+        return head;
     }
     if sort == 2 {
-        return Answer {
-            refusal: 0,
-            sent: ports::others(EVERY, gateway.ports, port),
-            gateway: restart(gateway, port, m.source),
-        };
+        return restart(head, nodes, starts, ports, sizes, port, m.source);
     }
     let announcement = message::announcement_of(m);
-    Answer {
-        refusal: 0,
-        sent: ports::others(EVERY, gateway.ports, port),
-        gateway: hear(gateway, port, m.source, announcement),
-    }
+    hear(
+        head,
+        nodes,
+        starts,
+        ports,
+        sizes,
+        port,
+        m.source,
+        announcement,
+    )
 }
 
 // 1 for a report, 2 for a restart, 0 for any other message.
-fn sort_of(kind: Kind) -> u8
+pub(crate) fn sort_of(kind: Kind) -> u8
     ensures { λ s. ⌜ s ≡ sortOf kind ⌝ }
 {
     match kind {
@@ -70,72 +69,89 @@ fn sort_of(kind: Kind) -> u8
     }
 }
 
-// The ports that want a report.
-fn wanted_at(gateway: Gateway, event: Field) -> u8
-    requires { ⌜ outOfBounds (gateOf gateway) ≡ false ⌝ }
-    ensures { λ r. ⌜ r ≡ setOf 8 (λ p. wantsReport (gateOf gateway) p event) ⌝ }
+fn restart(
+    head: Head,
+    nodes: &mut [u64],
+    starts: &mut [u64],
+    ports: &mut [u8],
+    sizes: &mut [u8],
+    port: u8,
+    node: u64,
+) -> Head
+    requires { ⌜ Whole (lists (now nodes) (now starts) (now ports) (now sizes)) ⌝ }
+    requires { ⌜ outOfBounds (gateIn head (lists (now nodes) (now starts) (now ports) (now sizes))) ≡ false ⌝ }
+    ensures { λ h. ⌜ gateIn h (lists (now (nodes .exit)) (now (starts .exit)) (now (ports .exit)) (now (sizes .exit))) ≡ restartOf (gateIn head (lists (now (nodes .entry)) (now (starts .entry)) (now (ports .entry)) (now (sizes .entry)))) port node ⌝ }
 {
-    let automatic = gateway.automatic;
-    let table = gateway.table;
-    let marks = gateway.marks;
-    let Field::Present(e) = event else {
-        return EVERY;
-    };
-    match range::holds(automatic, e) {
-        range::Answer::Yes => EVERY,
-        range::Answer::No => lines::holding(table, e, marks),
-        range::Answer::NoBlock => lines::holding(table, e, marks),
-    }
-}
-
-fn restart(gateway: Gateway, port: u8, node: u64) -> Gateway
-    requires { ⌜ outOfBounds (gateOf gateway) ≡ false ⌝ }
-    ensures { λ g. ⌜ gateOf g ≡ restartOf (gateOf gateway) port node ⌝ }
-{
-    let table = gateway.table;
-    let automatic = gateway.automatic;
-    Gateway {
-        ports: gateway.ports,
+    let automatic = head.automatic;
+    Head {
+        ports: head.ports,
+        marks: head.marks,
         automatic,
-        marks: gateway.marks,
-        table: lines::without_owned(table, port, node),
+        count: lines::without_owned(head.count, nodes, starts, ports, sizes, port, node),
     }
 }
 
-fn hear(gateway: Gateway, port: u8, node: u64, announcement: Announcement) -> Gateway
-    requires { ⌜ outOfBounds (gateOf gateway) ≡ false ⌝ }
-    requires { ⌜ port < gateway .ports ⌝ }
-    ensures { λ g. ⌜ gateOf g ≡ hearAt (gateOf gateway) port node announcement ⌝ }
+fn hear(
+    head: Head,
+    nodes: &mut [u64],
+    starts: &mut [u64],
+    ports: &mut [u8],
+    sizes: &mut [u8],
+    port: u8,
+    node: u64,
+    announcement: Announcement,
+) -> Head
+    requires { ⌜ Whole (lists (now nodes) (now starts) (now ports) (now sizes)) ⌝ }
+    requires { ⌜ outOfBounds (gateIn head (lists (now nodes) (now starts) (now ports) (now sizes))) ≡ false ⌝ }
+    requires { ⌜ port < head .ports ⌝ }
+    ensures { λ h. ⌜ gateIn h (lists (now (nodes .exit)) (now (starts .exit)) (now (ports .exit)) (now (sizes .exit))) ≡ hearAt (gateIn head (lists (now (nodes .entry)) (now (starts .entry)) (now (ports .entry)) (now (sizes .entry)))) port node announcement ⌝ }
 {
     let Announcement::Of(block) = announcement else {
-        return gateway;
+        return head;
     };
-    announce(gateway, Line { port, node, block })
+    announce(
+        head,
+        nodes,
+        starts,
+        ports,
+        sizes,
+        Line { port, node, block },
+    )
 }
 
-fn announce(gateway: Gateway, l: Line) -> Gateway
-    requires { ⌜ outOfBounds (gateOf gateway) ≡ false ⌝ }
-    requires { ⌜ l .port < gateway .ports ⌝ }
-    ensures { λ g. ⌜ gateOf g ≡ announceTo (gateOf gateway) l ⌝ }
+fn announce(
+    head: Head,
+    nodes: &mut [u64],
+    starts: &mut [u64],
+    ports: &mut [u8],
+    sizes: &mut [u8],
+    l: Line,
+) -> Head
+    requires { ⌜ Whole (lists (now nodes) (now starts) (now ports) (now sizes)) ⌝ }
+    requires { ⌜ outOfBounds (gateIn head (lists (now nodes) (now starts) (now ports) (now sizes))) ≡ false ⌝ }
+    requires { ⌜ l .port < head .ports ⌝ }
+    ensures { λ h. ⌜ gateIn h (lists (now (nodes .exit)) (now (starts .exit)) (now (ports .exit)) (now (sizes .exit))) ≡ announceTo (gateIn head (lists (now (nodes .entry)) (now (starts .entry)) (now (ports .entry)) (now (sizes .entry)))) l ⌝ }
 {
-    let table = gateway.table;
-    let automatic = gateway.automatic;
-    let marks = gateway.marks;
-    if lines::has(table, l) {
-        return gateway;
+    let automatic = head.automatic;
+    let marks = head.marks;
+    let count = head.count;
+    if lines::has(count, nodes, starts, ports, sizes, l) {
+        return head;
     }
-    if table.count < 256 {
-        return Gateway {
-            ports: gateway.ports,
-            automatic,
+    if count < 256 {
+        lines::put_line(nodes, starts, ports, sizes, count, l);
+        return Head {
+            ports: head.ports,
             marks,
-            table: lines::with_line(table, l),
+            automatic,
+            count: count + 1,
         };
     }
-    Gateway {
-        ports: gateway.ports,
+    let marks = port_sets::with_port(marks, l.port);
+    Head {
+        ports: head.ports,
+        marks,
         automatic,
-        marks: ports::with_port(marks, l.port),
-        table,
+        count,
     }
 }

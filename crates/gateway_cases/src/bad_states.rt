@@ -6,8 +6,8 @@ use crate::steps::HOUSE;
 use crate::steps::report;
 use crate::steps::step;
 use gateway_rules::Gateway;
+use gateway_rules::Head;
 use gateway_rules::Line;
-use gateway_rules::Table;
 use range::Block;
 
 pub(crate) fn good_line() -> Line {
@@ -29,13 +29,18 @@ pub(crate) fn state_of(
     line: Line,
     count: usize,
 ) -> Gateway {
-    let lines = [line; 256];
-    let table = Table { lines, count };
+    let block = line.block;
     Gateway {
-        ports,
-        automatic,
-        marks,
-        table,
+        head: Head {
+            ports,
+            marks,
+            automatic,
+            count,
+        },
+        nodes: [line.node; 256],
+        starts: [block.start; 256],
+        ports: [line.port; 256],
+        sizes: [block.k; 256],
     }
 }
 
@@ -125,20 +130,9 @@ fn past_the_count() {
 
 fn bad_last_line() {
     let g = state_of(4, range::block_of(HOUSE), 0, good_line(), 3);
-    let mut table = g.table;
-    let automatic = g.automatic;
-    let block = Block { start: 0, k: 65 };
-    table.lines[2] = Line {
-        port: 1,
-        node: BOARD_A,
-        block,
-    };
-    let bad = Gateway {
-        ports: 4,
-        automatic,
-        marks: 0,
-        table,
-    };
+    let mut bad = g;
+    bad.starts[2] = 0;
+    bad.sizes[2] = 65;
     report(bad, b"a bad line behind two good ones", 0, EVENT_A);
 }
 

@@ -1,6 +1,7 @@
 // Runs the gateway through the stories of the documents, and prints a line a step.
 mod bad_states;
 mod full_table;
+mod lent_lists;
 mod messages;
 mod ranges;
 mod report;
@@ -24,6 +25,7 @@ fn main() {
     bad_states::lines();
     bad_states::automatic_block();
     bad_states::counts();
+    lent_lists::lengths();
     starts::ports();
     starts::first_messages();
 }

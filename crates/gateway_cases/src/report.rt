@@ -1,6 +1,8 @@
 // What is printed of a step.
 use gateway::Answer;
+use gateway::LentAnswer;
 use gateway_rules::Gateway;
+use gateway_rules::Head;
 use libc::STDOUT_FILENO;
 
 pub(crate) fn heading(title: &[u8]) {
@@ -11,31 +13,42 @@ pub(crate) fn heading(title: &[u8]) {
 // The label, a digit a port or the refusal, and the next state, which comes back.
 pub(crate) fn told(label: &[u8], a: Answer) -> Gateway {
     let g = a.gateway;
+    let head = g.head;
+    said(label, a.refusal, a.sent, head);
+    g
+}
+
+// The same of a step on lent lists.
+pub(crate) fn told_lent(label: &[u8], a: LentAnswer) {
+    let head = a.head;
+    said(label, a.refusal, a.sent, head);
+}
+
+fn said(label: &[u8], refusal: u8, sent: u8, head: Head) {
     text(label);
     text(b": ");
-    if a.refusal == 0 {
-        digits(a.sent, g.ports);
+    if refusal == 0 {
+        digits(sent, head.ports);
     } else {
         text(b"refused ");
-        decimal(a.refusal as u64);
+        decimal(refusal as u64);
     }
-    state(g);
-    g
+    state(head);
 }
 
 // Of a run of steps that are not printed, only what they left.
 pub(crate) fn left(label: &[u8], g: Gateway) {
     text(label);
     text(b": done");
-    state(g);
+    let head = g.head;
+    state(head);
 }
 
-fn state(g: Gateway) {
-    let table = g.table;
+fn state(head: Head) {
     text(b", ");
-    decimal(table.count as u64);
+    decimal(head.count as u64);
     text(b" lines, marks ");
-    io::print_hex(STDOUT_FILENO, g.marks as u64, 1);
+    io::print_hex(STDOUT_FILENO, head.marks as u64, 1);
     text(b"\n");
 }
 

@@ -1,11 +1,10 @@
 -- G2: from a start a state is always in bounds and never has two equal lines; places past the count change nothing.
-use Prim.Native.Nat.{ℕ, zero, suc, _≤_, _<_}
+use Prim.Native.Nat.{ℕ, _≤_, _<_}
 use mathlib.Core.Path.{_≡_, refl, sym, ap, ap₂, _∙_, subst}
 use mathlib.Core.Bool.{Bool, true, false, cond, not, _&&_, _||_, and-false}
 use mathlib.Core.List.{List, [], _∷_, _++_}
-use native.Mathlib.Nat.{le-refl, le-trans, le-suc}
 use borrow.Author.Tests.{not-true}
-use lib.ListN.{length, getD}
+use lib.ListN.{length}
 use lib.Dec.{eqb}
 use Rattle.range.specs.Range.{bit}
 use Rattle.range.proofs.Laws.{both, same-truth}
@@ -13,10 +12,10 @@ use Rattle.message.specs.declared.Message.{Message}
 use Rattle.message.proofs.Writings.{neither}
 use Rattle.gateway_rules.specs.declared.Line.{Line}
 use Rattle.gateway_rules.specs.declared.Gateway.{Gateway}
-use Rattle.gateway_rules.specs.State.{Gate, full, noLine, firstPlaces, gateOf, outOfBounds, startOf}
+use Rattle.gateway_rules.specs.State.{Gate, full, lineAt, firstPlaces, gateIn, listsOf, gateOf, outOfBounds, startOf}
 use Rattle.gateway_rules.specs.Step.{sameLine, has, ownedAt, without, step, start}
 use Rattle.gateway_rules.specs.History.{Entry, after, Heard, accepted, told}
-use Rattle.gateway_rules.proofs.Lists.{same-line, has-append, has-without}
+use Rattle.gateway_rules.proofs.Lists.{same-line, has-append, has-without, first-same}
 use Rattle.histories.proofs.Sinces.{by-end}
 use Rattle.gateway_rules.proofs.Changes.{Change, change-of, told-end}
 use Rattle.gateway_rules.proofs.Changes.Change.{restarted, known, added, opened, passed}
@@ -90,23 +89,17 @@ always-in-bounds ports r s h =
 
 -- ---- places past the count
 
-first-same : (n : ℕ) (xs ys : List Line) → ((i : ℕ) → i < n → getD xs i noLine ≡ getD ys i noLine) → firstPlaces n xs ≡ firstPlaces n ys
-unfolding firstPlaces
-first-same zero xs ys h = refl
-first-same (suc n) xs ys h =
-    ap₂ (λ (front : List Line) (l : Line). front ++ (l ∷ [])) (first-same n xs ys (λ i l. h i (le-trans l (le-suc n)))) (h n (le-refl (suc n)))
-
 -- Two states of the code that differ only past the count.
 pub record SameToTheCount (a b : Gateway) : Type 0 where
-  pub ports : a .ports ≡ b .ports
-  pub automatic : a .automatic ≡ b .automatic
-  pub marks : a .marks ≡ b .marks
-  pub count : a .table .count ≡ b .table .count
-  pub places : (i : ℕ) → i < a .table .count → getD (a .table .lines) i noLine ≡ getD (b .table .lines) i noLine
+  pub ports : a .head .ports ≡ b .head .ports
+  pub automatic : a .head .automatic ≡ b .head .automatic
+  pub marks : a .head .marks ≡ b .head .marks
+  pub count : a .head .count ≡ b .head .count
+  pub places : (i : ℕ) → i < a .head .count → lineAt (listsOf a) i ≡ lineAt (listsOf b) i
 
 -- They get the same answers and the same next state.
 pub past-the-count : (a b : Gateway) → SameToTheCount a b → (q : ℕ) (bytes : List ℕ) → step (gateOf a) q bytes ≡ step (gateOf b) q bytes
-unfolding gateOf
+unfolding gateIn
 past-the-count a b s q bytes =
-    let lines = first-same (a .table .count) (a .table .lines) (b .table .lines) (s .places) ∙ ap (λ (n : ℕ). firstPlaces n (b .table .lines)) (s .count) in
+    let lines = first-same (a .head .count) (lineAt (listsOf a)) (lineAt (listsOf b)) (s .places) ∙ ap (λ (n : ℕ). firstPlaces n (lineAt (listsOf b))) (s .count) in
     λ i. step (record { ports = s .ports i; automatic = s .automatic i; lines = lines i; marked = λ p. eqb (bit p (s .marks i)) 1 }) q bytes

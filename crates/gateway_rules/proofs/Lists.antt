@@ -1,10 +1,10 @@
 -- Lines in a list: one that is there, one that is added, some that are left out.
-use Prim.Native.Nat.{ℕ, zero, suc, _≤_, zero-le, suc-le-suc}
-use native.Mathlib.Nat.{le-trans, le-suc}
+use Prim.Native.Nat.{ℕ, zero, suc, _≤_, _<_, zero-le, suc-le-suc}
+use native.Mathlib.Nat.{le-refl, le-trans, le-suc}
 use native.Mathlib.Omega.{arith}
-use lib.ListN.{length, getD, length-append}
+use lib.ListN.{length, length-append}
 use Rattle.message.proofs.Writings.{neither}
-use mathlib.Core.Path.{_≡_, refl, sym, ap, _∙_}
+use mathlib.Core.Path.{_≡_, refl, sym, ap, ap₂, _∙_}
 use mathlib.Core.Logic.{_↔_}
 use mathlib.Core.Bool.{Bool, true, false, cond, not, _&&_, _||_, and-false, or-false, or-true, false≢true}
 use mathlib.Core.List.{List, [], _∷_, _++_}
@@ -15,7 +15,7 @@ use Rattle.range.proofs.Laws.{both, same-block}
 use Rattle.gateway_rules.specs.declared.Line.{Line}
 use Rattle.sets.specs.Sets.{any}
 use Rattle.sets.proofs.Sets.{any-append}
-use Rattle.gateway_rules.specs.State.{noLine, firstPlaces}
+use Rattle.gateway_rules.specs.State.{firstPlaces}
 use Rattle.gateway_rules.specs.Step.{sameLine, has, without}
 
 -- ---- one line and another
@@ -104,7 +104,13 @@ without-none test out (x ∷ xs) h = go (out x) (neither (test x) (any test xs) 
 
 -- ---- the places of the code's table
 
-pub count-places : (n : ℕ) (places : List Line) → length (firstPlaces n places) ≡ n
+pub count-places : (n : ℕ) (at : ℕ → Line) → length (firstPlaces n at) ≡ n
 unfolding firstPlaces
-count-places zero places = refl
-count-places (suc n) places = omega (arith, length-append (firstPlaces n places) (getD places n noLine ∷ []), count-places n places)
+count-places zero at = refl
+count-places (suc n) at = omega (arith, length-append (firstPlaces n at) (at n ∷ []), count-places n at)
+
+pub first-same : (n : ℕ) (at to : ℕ → Line) → ((i : ℕ) → i < n → at i ≡ to i) → firstPlaces n at ≡ firstPlaces n to
+unfolding firstPlaces
+first-same zero at to h = refl
+first-same (suc n) at to h =
+    ap₂ (λ (front : List Line) (l : Line). front ++ (l ∷ [])) (first-same n at to (λ i l. h i (le-trans l (le-suc n)))) (h n (le-refl (suc n)))

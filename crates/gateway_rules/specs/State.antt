@@ -9,6 +9,7 @@ use Rattle.range.specs.Range.{isBlock, blockOf}
 use Rattle.sets.specs.Sets.{any, inSet, anyBelow}
 use Rattle.message.specs.Messages.{badNode}
 use Rattle.gateway_rules.specs.declared.Line.{Line}
+use Rattle.gateway_rules.specs.declared.Head.{Head}
 use Rattle.gateway_rules.specs.declared.Gateway.{Gateway}
 
 -- Port count, automatic block, the lines of the table, and an open mark per port.
@@ -24,21 +25,37 @@ full = 256
 
 -- ---- from the code's state
 
-abbrev pub noLine : Line
-noLine = record { port = 0; node = 0; block = record { start = 0; k = 0 } }
+-- The lists that the lines stand in. At place i are line i's Node ID, its block's start and k, and its port.
+pub record Lists : Type 0 where
+  pub nodes : List ℕ
+  pub starts : List ℕ
+  pub ports : List ℕ
+  pub sizes : List ℕ
+
+abbrev pub lists : List ℕ → List ℕ → List ℕ → List ℕ → Lists
+lists nodes starts ports sizes = record { nodes = nodes; starts = starts; ports = ports; sizes = sizes }
+
+abbrev pub lineAt : Lists → ℕ → Line
+lineAt t i = record { port = getD (t .ports) i 0; node = getD (t .nodes) i 0; block = record { start = getD (t .starts) i 0; k = getD (t .sizes) i 0 } }
 
 -- The first n places; places past the line count aren't part of the state.
-unfoldable pub firstPlaces : ℕ → List Line → List Line
-firstPlaces zero places = []
-firstPlaces (suc n) places = firstPlaces n places ++ (getD places n noLine ∷ [])
+unfoldable pub firstPlaces : ℕ → (ℕ → Line) → List Line
+firstPlaces zero at = []
+firstPlaces (suc n) at = firstPlaces n at ++ (at n ∷ [])
 
-unfoldable pub gateOf : Gateway → Gate
-gateOf g = record {
-  ports = g .ports;
-  automatic = g .automatic;
-  lines = firstPlaces (g .table .count) (g .table .lines);
-  marked = inSet (g .marks);
+unfoldable pub gateIn : Head → Lists → Gate
+gateIn h t = record {
+  ports = h .ports;
+  automatic = h .automatic;
+  lines = firstPlaces (h .count) (lineAt t);
+  marked = inSet (h .marks);
 }
+
+abbrev pub listsOf : Gateway → Lists
+listsOf g = lists (g .nodes) (g .starts) (g .ports) (g .sizes)
+
+abbrev pub gateOf : Gateway → Gate
+gateOf g = gateIn (g .head) (listsOf g)
 
 -- ---- out of bounds
 

@@ -9,18 +9,21 @@ pub struct Line {
     pub block: Block,
 }
 
-// Places past the count are no part of the state.
+// The state but for the lines themselves. Bit p of marks is the open mark of port p.
 #[repr(C)]
-pub struct Table {
-    pub lines: [Line; 256],
+pub struct Head {
+    pub ports: u8,
+    pub marks: u8,
+    pub automatic: Block,
     pub count: usize,
 }
 
-// Bit p of marks is the open mark of port p.
+// Line i is at place i of four lists, which is less to copy than a list of lines. Places past the count are no part of the state.
 #[repr(C)]
 pub struct Gateway {
-    pub ports: u8,
-    pub automatic: Block,
-    pub marks: u8,
-    pub table: Table,
+    pub head: Head,
+    pub nodes: [u64; 256],
+    pub starts: [u64; 256],
+    pub ports: [u8; 256],
+    pub sizes: [u8; 256],
 }

@@ -9,10 +9,11 @@ use lib.ListN.{length, take, drop}
 use Rattle.text.specs.declared.Place.{Place}
 use Rattle.text.specs.Text.{filled, endOf}
 use Rattle.text.proofs.Laws.{Remains, remains-next, remains-none}
-use Rattle.gateway_rules.specs.State.{Gate, gateOf, startOf}
+use Rattle.gateway_rules.specs.State.{Gate, Lists, lineAt, gateIn, gateOf, startOf}
 use Rattle.gateway_rules.specs.Step.{Outcome, start, step}
 use Rattle.gateway.specs.declared.Answer.{Answer}
-use Rattle.gateway.specs.Answers.{Seen, seenIn, seenOf}
+use Rattle.gateway.specs.declared.LentAnswer.{LentAnswer}
+use Rattle.gateway.specs.Answers.{Seen, seenIn, seenLent, seenOf}
 use Rattle.gateway_rules.proofs.Lists.{count-places}
 use Rattle.replay.specs.Files.{entryCount, entryAt, portIn, lengthIn, bodyAt}
 use Rattle.replay.specs.Lines.{ports, house, lineOf, lineFor, stepAt, linesFrom}
@@ -30,59 +31,59 @@ module _ (i : ℕ) (g : Gate) (s : List ℕ) where
   lines-next n = refl
 
 -- The line of an answer, with the count that the step leaves.
-line-for : (i : ℕ) (o : Outcome) (a : Answer) → seenIn a ≡ seenOf o → lineOf i (a .refusal) (a .sent) (a .gateway .table .count) ≡ lineFor i o
-unfolding gateOf
-line-for i o a e =
-    let count = sym (count-places (a .gateway .table .count) (a .gateway .table .lines)) ∙ ap (λ (x : Seen). length (x .gate .lines)) e in
-    λ t. lineOf i (e t .refusal) (e t .sent) (count t)
+line-for : (i : ℕ) (o : Outcome) (a : LentAnswer) (t : Lists) → seenLent a t ≡ seenOf o → lineOf i (a .refusal) (a .sent) (a .head .count) ≡ lineFor i o
+unfolding gateIn
+line-for i o a t e =
+    let count = sym (count-places (a .head .count) (lineAt t)) ∙ ap (λ (x : Seen). length (x .gate .lines)) e in
+    λ z. lineOf i (e z .refusal) (e z .sent) (count z)
 
 -- A start with 4 ports is not refused.
-started : (a : Answer) → seenIn a ≡ seenOf (start ports house) → gateOf (a .gateway) ≡ startOf ports house
+pub started : (a : Answer) → seenIn a ≡ seenOf (start ports house) → gateOf (a .gateway) ≡ startOf ports house
 unfolding start
 started a e = ap (λ (x : Seen). x .gate) e
 
 -- ---- the entries done
 
--- Before entry i, whose body stands at a place of the file.
-pub record Running (file : List ℕ) (first : Place) (text₀ : List ℕ) (i at : ℕ) (g : Gate) (next : Place) (text : List ℕ) : Type 0 where
+-- Before entry i, whose body stands at a place of the file; the box began as g₀ and is g.
+pub record Running (g₀ : Gate) (file : List ℕ) (first : Place) (text₀ : List ℕ) (i at : ℕ) (g : Gate) (next : Place) (text : List ℕ) : Type 0 where
   pub inside : i ≤ entryCount file
   pub body : at ≡ bodyAt file i
-  pub rest : Remains first (linesFrom (entryCount file) 0 (startOf ports house) file) text₀ next (linesFrom (entryCount file - i) i g file) text
+  pub rest : Remains first (linesFrom (entryCount file) 0 g₀ file) text₀ next (linesFrom (entryCount file - i) i g file) text
 
-pub running-start : (file : List ℕ) (first : Place) (text : List ℕ) (a : Answer) {count : ℕ} → seenIn a ≡ seenOf (start ports house)
-    → count ≡ entryCount file → first .at ≤ length text → Running file first text 0 (entryAt count) (gateOf (a .gateway)) first text
-running-start file first text a e f h = record {
+pub running-start : (g₀ : Gate) (file : List ℕ) (first : Place) (text : List ℕ) {count : ℕ}
+    → count ≡ entryCount file → first .at ≤ length text → Running g₀ file first text 0 (entryAt count) g₀ first text
+running-start g₀ file first text f h = record {
   inside = omega arith;
   body = ap entryAt f ∙ sym (body-first file);
-  rest = rw (sub-zero (entryCount file), started a e) (record { inside = h; place = refl; bytes = refl });
+  rest = rw (sub-zero (entryCount file)) (record { inside = h; place = refl; bytes = refl });
 }
 
-module _ {file : List ℕ} {first : Place} {text₀ : List ℕ} {i at : ℕ} {g : Gate} {next : Place} {text : List ℕ} (r : Running file first text₀ i at g next text) where
+module _ {g₀ : Gate} {file : List ℕ} {first : Place} {text₀ : List ℕ} {i at : ℕ} {g : Gate} {next : Place} {text : List ℕ} (r : Running g₀ file first text₀ i at g next text) where
   -- The entry's body is within the file.
   pub running-within : {size : ℕ} → Good file → i < entryCount file → size ≡ lengthIn file i → at + size ≤ length file
   running-within good h z = omega (arith, body-within good i h, r .body, z)
 
   -- The entry's line is put in, and the next body stands after its own.
-  pub running-next : (a : Answer) {next′ : Place} {text′ : List ℕ} {size : ℕ} → i < entryCount file → size ≡ lengthIn file i
-      → seenIn a ≡ seenOf (step g (portIn file i) (take (at + size - at) (drop at file)))
-      → next′ ≡ endOf next (lineOf i (a .refusal) (a .sent) (a .gateway .table .count)) text
-      → text′ ≡ filled next (lineOf i (a .refusal) (a .sent) (a .gateway .table .count)) text
-      → Running file first text₀ (i + 1) (at + size) (gateOf (a .gateway)) next′ text′
-  running-next a h z e e₁ f₁ =
+  pub running-next : (a : LentAnswer) (t : Lists) {next′ : Place} {text′ : List ℕ} {size : ℕ} → i < entryCount file → size ≡ lengthIn file i
+      → seenLent a t ≡ seenOf (step g (portIn file i) (take (at + size - at) (drop at file)))
+      → next′ ≡ endOf next (lineOf i (a .refusal) (a .sent) (a .head .count)) text
+      → text′ ≡ filled next (lineOf i (a .refusal) (a .sent) (a .head .count)) text
+      → Running g₀ file first text₀ (i + 1) (at + size) (gateIn (a .head) t) next′ text′
+  running-next a t h z e e₁ f₁ =
       let left : entryCount file - i ≡ suc (entryCount file - (i + 1)) = omega (arith, h) in
-      let taken : seenIn a ≡ seenOf (stepAt g file i) = e ∙ ap (λ (l : List ℕ). seenOf (step g (portIn file i) l)) (body-part file i (r .body) z) in
-      let line = line-for i (stepAt g file i) a taken in
-      let lines : linesFrom (entryCount file - i) i g file ≡ lineOf i (a .refusal) (a .sent) (a .gateway .table .count) ++ linesFrom (entryCount file - (i + 1)) (i + 1) (gateOf (a .gateway)) file
+      let taken : seenLent a t ≡ seenOf (stepAt g file i) = e ∙ ap (λ (l : List ℕ). seenOf (step g (portIn file i) l)) (body-part file i (r .body) z) in
+      let line = line-for i (stepAt g file i) a t taken in
+      let lines : linesFrom (entryCount file - i) i g file ≡ lineOf i (a .refusal) (a .sent) (a .head .count) ++ linesFrom (entryCount file - (i + 1)) (i + 1) (gateIn (a .head) t) file
       = ap (λ (n : ℕ). linesFrom n i g file) left
       ∙ lines-next i g file (entryCount file - (i + 1))
-      ∙ λ t. sym line t ++ linesFrom (entryCount file - (i + 1)) (sym (add-one i) t) (sym taken t .gate) file in
+      ∙ λ z. sym line z ++ linesFrom (entryCount file - (i + 1)) (sym (add-one i) z) (sym taken z .gate) file in
       record {
         inside = omega (arith, h);
         body = ap₂ _+_ (r .body) z ∙ sym (body-next file i);
-        rest = remains-next (lineOf i (a .refusal) (a .sent) (a .gateway .table .count)) (rw lines at (r .rest)) e₁ f₁;
+        rest = remains-next (lineOf i (a .refusal) (a .sent) (a .head .count)) (rw lines at (r .rest)) e₁ f₁;
       }
 
-  pub running-end : entryCount file ≤ i → (next ≡ endOf first (linesFrom (entryCount file) 0 (startOf ports house) file) text₀) × (text ≡ filled first (linesFrom (entryCount file) 0 (startOf ports house) file) text₀)
+  pub running-end : entryCount file ≤ i → (next ≡ endOf first (linesFrom (entryCount file) 0 g₀ file) text₀) × (text ≡ filled first (linesFrom (entryCount file) 0 g₀ file) text₀)
   running-end h =
       let none : entryCount file - i ≡ 0 = omega (arith, h) in
       remains-none (rw (ap (λ (n : ℕ). linesFrom n i g file) none ∙ lines-end i g file) at (r .rest))

@@ -4,11 +4,12 @@ ghost use mathlib.Core.Bool.{true};
 ghost use Prim.Native.Nat.{_≤_};
 ghost use lib.ListN.{length};
 ghost use Rattle.text.specs.Text.{filled, endOf};
-ghost use Rattle.gateway_rules.specs.State.{startOf};
+ghost use Rattle.gateway_rules.specs.State.{gateOf, startOf};
 ghost use Rattle.replay.specs.Files.{entryCount, goodFile};
 ghost use Rattle.replay.specs.Lines.{ports, house, linesFrom};
 use crate::files;
 use crate::lines;
+use gateway_rules::Gateway;
 use text::Place;
 
 const PORTS: u8 = 4;
@@ -23,7 +24,22 @@ pub(crate) fn run(file: &[u8], first: Place, text: &mut [u8]) -> Place
     ensures { λ _. ⌜ now (text .exit) ≡ filled first (linesFrom (entryCount (now (file .entry))) 0 (startOf ports house) (now (file .entry))) (now (text .entry)) ⌝ }
 {
     let started = gateway::start(PORTS, HOUSE);
-    let mut box_now = started.gateway;
+    let gateway = started.gateway;
+    from(gateway, file, first, text)
+}
+
+// The same from any state. The box works in place: its lists are lent to each call.
+fn from(gateway: Gateway, file: &[u8], first: Place, text: &mut [u8]) -> Place
+    requires { ⌜ goodFile (now file) ≡ true ⌝ }
+    requires { ⌜ first .at ≤ length (now text) ⌝ }
+    ensures { λ r. ⌜ r ≡ endOf first (linesFrom (entryCount (now (file .entry))) 0 (gateOf gateway) (now (file .entry))) (now (text .entry)) ⌝ }
+    ensures { λ _. ⌜ now (text .exit) ≡ filled first (linesFrom (entryCount (now (file .entry))) 0 (gateOf gateway) (now (file .entry))) (now (text .entry)) ⌝ }
+{
+    let mut head = gateway.head;
+    let mut nodes = gateway.nodes;
+    let mut starts = gateway.starts;
+    let mut ports = gateway.ports;
+    let mut sizes = gateway.sizes;
     let mut next = first;
     let count = files::number(file, 0, 2) as usize;
     let mut at = 2 + count * 3;
@@ -33,11 +49,17 @@ pub(crate) fn run(file: &[u8], first: Place, text: &mut [u8]) -> Place
         let port = file[entry];
         let length = files::number(file, entry + 1, 2) as usize;
         let end = at + length;
-        let a = gateway::receive(box_now, port, &file[at..end]);
-        let after = a.gateway;
-        let table = after.table;
-        next = lines::put(i, a.refusal, a.sent, table.count, next, text);
-        box_now = after;
+        let a = gateway::receive_lent(
+            head,
+            &mut nodes,
+            &mut starts,
+            &mut ports,
+            &mut sizes,
+            port,
+            &file[at..end],
+        );
+        head = a.head;
+        next = lines::put(i, a.refusal, a.sent, head.count, next, text);
         at = end;
         i += 1;
     }

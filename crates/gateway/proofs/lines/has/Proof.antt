@@ -4,27 +4,29 @@ use mathlib.Core.Path.{_≡_, sym, ap, _∙_}
 use mathlib.Core.Bool.{Bool, false, _||_}
 use native.Mathlib.Omega.{arith}
 use borrow.Author.Needs.{needs}
+use denote.Ref.{now}
 use Rattle.sets.specs.Sets.{any}
-use Rattle.gateway_rules.specs.State.{firstPlaces}
+use Rattle.gateway_rules.specs.State.{lists, lineAt}
 use Rattle.gateway_rules.specs.Step.{sameLine}
-use Rattle.gateway.proofs.Places.{at, any-more, any-at, no-places}
+use Rattle.gateway.specs.Answers.{linesIn}
+use Rattle.gateway.proofs.Places.{any-more, any-at, no-places, line-tells}
 use Rattle.gateway.proofs.lines.has.Statement.{statement}
 use Rattle.gateway.proofs.lines.has.Tie as tie
 
 abbrev Inv-loop : tie.InvT-loop
-Inv-loop l table count i₀ i = (i ≤ table .count) × (any (sameLine l) (firstPlaces i (table .lines)) ≡ false)
+Inv-loop count nodes starts ports sizes l i₀ i = (i ≤ count) × (any (sameLine l) (linesIn i (lists nodes starts ports sizes)) ≡ false)
 
 abbrev μ-loop : tie.MeasureT-loop
-μ-loop l table count i₀ i = table .count - i
+μ-loop count nodes starts ports sizes l i₀ i = count - i
 
 loop-holds : tie.Need-loop-holds Inv-loop μ-loop
-loop-holds c = (omega arith, ap (any (sameLine (c .args .l))) (no-places (c .args .t1 .lines)))
+loop-holds c =
+    let a = c .before .before .before .before .args in
+    let t = lists (now (a .nodes)) (now (a .starts)) (now (a .ports)) (now (a .sizes)) in
+    (omega arith, ap (any (sameLine (a .l))) (no-places (lineAt t)))
 
-mul-x : tie.Need-mul-x Inv-loop μ-loop
-mul-x c = omega arith
-
-element-copy-out-x : tie.Need-element-copy-out-x Inv-loop μ-loop
-element-copy-out-x c = omega arith
+line-at-requires : tie.Need-line-at-requires Inv-loop μ-loop
+line-at-requires c κs = (c .before .before .before .before .before .before .pre .1, omega arith)
 
 add-i : tie.Need-add-i Inv-loop μ-loop
 add-i c = omega arith
@@ -34,23 +36,27 @@ same-line-requires c κs = search needs
 
 returns : tie.Need-returns Inv-loop μ-loop
 returns c =
-    let a = c .before .before .before .before .before .args in
-    sym (any-at (sameLine (a .l)) (a .t1 .count) (a .t1 .lines) (c .before .before .before .before .loop .i) (omega arith) (sym (c .before .same-line .ensures) ∙ c .if1 .taken))
+    let a = c .before .before .before .before .before .before .before .before .before .args in
+    let t = lists (now (a .nodes)) (now (a .starts)) (now (a .ports)) (now (a .sizes)) in
+    sym (any-at (sameLine (a .l)) (a .count) (lineAt t) (c .before .before .before .before .loop .i) (omega arith) (line-tells (sameLine (a .l)) (lineAt t (c .before .before .before .before .loop .i)) (c .before .before .line-at .ensures) (c .before .same-line .ensures) (c .if1 .taken)))
 
 loop-less : tie.Need-loop-less Inv-loop μ-loop
 loop-less c = omega arith
 
 loop-again : tie.Need-loop-again Inv-loop μ-loop
 loop-again c =
-    let a = c .before .before .before .before .before .args in
+    let a = c .before .before .before .before .before .before .before .before .before .args in
+    let t = lists (now (a .nodes)) (now (a .starts)) (now (a .ports)) (now (a .sizes)) in
     let l = c .before .before .before .before .loop in
-    (omega arith, any-more (sameLine (a .l)) (l .i) (a .t1 .lines) ∙ ap (λ (t : Bool). t || sameLine (a .l) (at (a .t1 .lines) (l .i))) (l .inv .1) ∙ sym (c .before .same-line .ensures) ∙ c .if1 .left)
+    (omega arith, any-more (sameLine (a .l)) (l .i) (lineAt t) ∙ ap (λ (y : Bool). y || sameLine (a .l) (lineAt t (l .i))) (l .inv .1) ∙ line-tells (sameLine (a .l)) (lineAt t (c .before .before .before .before .loop .i)) (c .before .before .line-at .ensures) (c .before .same-line .ensures) (c .if1 .left))
 
 returns-2 : tie.Need-returns-2 Inv-loop μ-loop
 returns-2 c =
-    let a = c .before .before .args in
+    let a = c .before .before .before .before .before .before .args in
+    let t = lists (now (a .nodes)) (now (a .starts)) (now (a .ports)) (now (a .sizes)) in
     let l = c .before .loop in
-    let all : l .i ≡ a .t1 .count = omega arith in sym (l .inv .1) ∙ ap (λ (k : ℕ). any (sameLine (a .l)) (firstPlaces k (a .t1 .lines))) all
+    let all : l .i ≡ a .count = omega arith in
+    sym (l .inv .1) ∙ ap (λ (k : ℕ). any (sameLine (a .l)) (linesIn k t)) all
 
 pub has-spec : {M : Type 1} → statement M
 has-spec =
@@ -59,8 +65,7 @@ has-spec =
     Inv-loop
     μ-loop
     loop-holds
-    mul-x
-    element-copy-out-x
+    line-at-requires
     add-i
     same-line-requires
     returns

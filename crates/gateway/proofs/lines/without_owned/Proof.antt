@@ -1,31 +1,30 @@
--- The first j places have the lines before place i that stay.
+-- What stays of the lines before place i stands at the first j places.
 use Prim.Native.Nat.{ℕ, _-_, _≤_}
 use mathlib.Core.Path.{_≡_, sym, ap, _∙_}
-use mathlib.Core.List.{List, [], _∷_, _++_}
 use native.Mathlib.Omega.{arith}
 use borrow.Author.Needs.{needs}
-use lib.ListN.{length, length-map, length-set}
-use Rattle.gateway_rules.specs.declared.Line.{Line}
-use Rattle.gateway_rules.specs.State.{firstPlaces}
+use denote.Ref.{now}
+use Rattle.gateway_rules.specs.State.{lists}
 use Rattle.gateway_rules.specs.Step.{ownedAt, without}
-use Rattle.gateway.proofs.Places.{at, no-places, left-out, kept-on, put-last}
+use Rattle.gateway.specs.Answers.{linesIn}
+use Rattle.gateway.proofs.Kept.{Kept, none-passed, passed-over, kept-here}
 use Rattle.gateway.proofs.lines.without_owned.Statement.{statement}
 use Rattle.gateway.proofs.lines.without_owned.Tie as tie
 
 abbrev Inv-loop : tie.InvT-loop
-Inv-loop port node table kept₀ count i₀ j₀ kept i j = (i ≤ table .count) × (j ≤ i) × (length (kept .lines) ≡ 256) × (firstPlaces j (kept .lines) ≡ without (ownedAt port node) (firstPlaces i (table .lines)))
+Inv-loop count nodes₀ starts₀ ports₀ sizes₀ port node i₀ j₀ nodes starts ports sizes i j = (i ≤ count) × (j ≤ i) × Kept port node (lists nodes₀ starts₀ ports₀ sizes₀) (lists nodes starts ports sizes) i j
 
 abbrev μ-loop : tie.MeasureT-loop
-μ-loop port node table kept₀ count i₀ j₀ kept i j = table .count - i
+μ-loop count nodes₀ starts₀ ports₀ sizes₀ port node i₀ j₀ nodes starts ports sizes i j = count - i
 
 loop-holds : tie.Need-loop-holds Inv-loop μ-loop
-loop-holds c = (omega arith, omega arith, sym (length-map (c .args .t1 .lines) _) ∙ c .good .0 .1 .1 .0 .1 .0 .1, no-places (c .args .t1 .lines) ∙ sym (ap (without (ownedAt (c .args .port) (c .args .node))) (no-places (c .args .t1 .lines))))
+loop-holds c =
+    let a = c .before .before .before .before .args in
+    let t = lists (now (a .nodes)) (now (a .starts)) (now (a .ports)) (now (a .sizes)) in
+    (omega arith, omega arith, none-passed (a .port) (a .node) t (c .before .before .before .before .pre .1))
 
-mul-l : tie.Need-mul-l Inv-loop μ-loop
-mul-l c = omega arith
-
-element-copy-out-l : tie.Need-element-copy-out-l Inv-loop μ-loop
-element-copy-out-l c = omega arith
+line-at-requires : tie.Need-line-at-requires Inv-loop μ-loop
+line-at-requires c κs = (c .before .before .before .before .before .loop .inv .2 .whole, omega arith)
 
 add-i : tie.Need-add-i Inv-loop μ-loop
 add-i c = omega arith
@@ -38,15 +37,14 @@ loop-less c = omega arith
 
 loop-again : tie.Need-loop-again Inv-loop μ-loop
 loop-again c =
-    let a = c .before .before .before .before .before .args in
-    let l = c .before .before .before .before .loop in
-    (omega arith, omega arith, l .inv .2, l .inv .3 ∙ sym (left-out (ownedAt (a .port) (a .node)) (l .i) (a .t1 .lines) (sym (c .before .owned .ensures) ∙ c .if1 .taken)))
+    let a = c .before .before .before .before .before .before .before .before .before .before .before .before .before .args in
+    let t = lists (now (a .nodes)) (now (a .starts)) (now (a .ports)) (now (a .sizes)) in
+    let l = c .before .before .before .before .before .before .before .before .loop in
+    let there = lists (l .nodes) (l .starts) (l .ports) (l .sizes) in
+    (omega arith, omega arith, passed-over (a .port) (a .node) t there (l .i) (l .j) (c .before .before .line-at .result) (l .inv .2) (c .before .before .line-at .ensures) (sym (c .before .owned .ensures) ∙ c .if1 .taken))
 
-mul-l-2 : tie.Need-mul-l-2 Inv-loop μ-loop
-mul-l-2 c = omega arith
-
-element-set-from-l : tie.Need-element-set-from-l Inv-loop μ-loop
-element-set-from-l c = omega arith
+put-line-requires : tie.Need-put-line-requires Inv-loop μ-loop
+put-line-requires c κs = (c .before .before .before .before .before .before .before .before .before .before .before .before .loop .inv .2 .whole, omega arith)
 
 add-j : tie.Need-add-j Inv-loop μ-loop
 add-j c = omega arith
@@ -56,18 +54,31 @@ loop-less-2 c = omega arith
 
 loop-again-2 : tie.Need-loop-again-2 Inv-loop μ-loop
 loop-again-2 c =
-    let a = c .before .before .before .before .before .args in
-    let l = c .before .before .before .before .loop in
-    let line = at (a .t1 .lines) (l .i) in
-    let stays = kept-on (ownedAt (a .port) (a .node)) (l .i) (a .t1 .lines) (sym (c .before .owned .ensures) ∙ c .if1 .left) in
-    let written = put-last (l .j) (l .kept .lines) line (omega arith) in
-    (omega arith, omega arith, simp length-set (l .inv .2), written ∙ ap (λ (xs : List Line). xs ++ (line ∷ [])) (l .inv .3) ∙ sym stays)
+    let a = c .before .before .before .before .before .before .before .before .before .before .before .before .before .before .before .before .before .before .before .before .before .before .before .before .before .before .args in
+    let t = lists (now (a .nodes)) (now (a .starts)) (now (a .ports)) (now (a .sizes)) in
+    let l = c .before .before .before .before .before .before .before .before .before .before .before .before .before .before .before .before .before .before .before .before .before .loop in
+    let there = lists (l .nodes) (l .starts) (l .ports) (l .sizes) in
+    (omega arith, omega arith, kept-here (a .port) (a .node) t there (l .i) (l .j) (c .before .before .before .before .before .before .before .before .before .before .before .before .before .before .before .line-at .result) (l .inv .2) (c .before .before .before .before .before .before .before .before .before .before .before .before .before .before .before .line-at .ensures) _ (sym (c .before .before .before .before .before .before .before .before .before .before .before .before .before .before .owned .ensures) ∙ c .before .before .before .before .before .before .before .before .before .before .before .before .before .if1 .left) (l .inv .1) (omega (arith, c .before .before .before .before .before .before .before .before .before .before .before .before .before .before .before .before .before .before .before .before .loop-test .taken, c .before .before .before .before .before .before .before .before .before .before .before .before .before .before .before .before .before .before .before .before .before .before .before .before .before .before .pre .0)) (c .before .before .before .before .before .before .before .before .put-line .ensures))
+
+same-length : tie.Need-same-length Inv-loop μ-loop
+same-length c = c .before .loop .inv .2 .whole .0 ∙ sym (c .before .before .before .before .before .before .pre .1 .0)
+
+same-length-2 : tie.Need-same-length-2 Inv-loop μ-loop
+same-length-2 c = c .before .loop .inv .2 .whole .1 ∙ sym (c .before .before .before .before .before .before .pre .1 .1)
+
+same-length-3 : tie.Need-same-length-3 Inv-loop μ-loop
+same-length-3 c = c .before .loop .inv .2 .whole .2 ∙ sym (c .before .before .before .before .before .before .pre .1 .2)
+
+same-length-4 : tie.Need-same-length-4 Inv-loop μ-loop
+same-length-4 c = c .before .loop .inv .2 .whole .3 ∙ sym (c .before .before .before .before .before .before .pre .1 .3)
 
 returns : tie.Need-returns Inv-loop μ-loop
 returns c =
-    let a = c .before .before .args in
+    let a = c .before .before .before .before .before .before .args in
+    let t = lists (now (a .nodes)) (now (a .starts)) (now (a .ports)) (now (a .sizes)) in
     let l = c .before .loop in
-    let all : l .i ≡ a .t1 .count = omega arith in l .inv .3 ∙ ap (λ (k : ℕ). without (ownedAt (a .port) (a .node)) (firstPlaces k (a .t1 .lines))) all
+    let all : l .i ≡ a .count = omega arith in
+    l .inv .2 .stay ∙ ap (λ (k : ℕ). without (ownedAt (a .port) (a .node)) (linesIn k t)) all
 
 pub without-owned-spec : {M : Type 1} → statement M
 without-owned-spec =
@@ -76,15 +87,17 @@ without-owned-spec =
     Inv-loop
     μ-loop
     loop-holds
-    mul-l
-    element-copy-out-l
+    line-at-requires
     add-i
     owned-requires
     loop-less
     loop-again
-    mul-l-2
-    element-set-from-l
+    put-line-requires
     add-j
     loop-less-2
     loop-again-2
+    same-length
+    same-length-2
+    same-length-3
+    same-length-4
     returns)

@@ -4,8 +4,8 @@ use native.Mathlib.Omega.{arith}
 use borrow.Author.Needs.{needs}
 use Rattle.range.specs.declared.Answer.the-variants.{Yes, No, NoBlock}
 use Rattle.gateway.proofs.Held.{port-below, line-says, held, not-held}
-use Rattle.gateway.proofs.lines.held_by.Statement.{statement}
-use Rattle.gateway.proofs.lines.held_by.Tie as tie
+use Rattle.gateway.proofs.pass.held_by.Statement.{statement}
+use Rattle.gateway.proofs.pass.held_by.Tie as tie
 
 holds-requires : tie.Need-holds-requires
 holds-requires c κs = search needs

@@ -1,8 +1,8 @@
 -- The three tests in their order.
 use borrow.Author.Tests.{eq-eqb, ne-eqb, lt-ltb, le-ltb}
 use borrow.Author.Needs.{needs}
-use Rattle.gateway.proofs.ports.goes.Statement.{statement}
-use Rattle.gateway.proofs.ports.goes.Tie as tie
+use Rattle.gateway.proofs.port_sets.goes.Statement.{statement}
+use Rattle.gateway.proofs.port_sets.goes.Tie as tie
 
 returns : tie.Need-returns
 returns c =

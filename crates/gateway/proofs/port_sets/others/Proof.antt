@@ -8,8 +8,8 @@ use lib.Dec.{eqb, ltb}
 use Rattle.sets.proofs.Bits.{next-bit}
 use Rattle.sets.specs.Sets.{setOf, inSet}
 use Rattle.sets.proofs.Sets.{set-below}
-use Rattle.gateway.proofs.ports.others.Statement.{statement}
-use Rattle.gateway.proofs.ports.others.Tie as tie
+use Rattle.gateway.proofs.port_sets.others.Statement.{statement}
+use Rattle.gateway.proofs.port_sets.others.Tie as tie
 
 -- The ports below p are settled.
 

@@ -5,8 +5,8 @@ use native.Mathlib.Omega.{arith}
 use borrow.Author.Needs.{needs}
 use native.Mathlib.Nat.{add-zero}
 use Rattle.sets.proofs.Bits.{one-bit, bit-fits}
-use Rattle.gateway.proofs.ports.put.Statement.{statement}
-use Rattle.gateway.proofs.ports.put.Tie as tie
+use Rattle.gateway.proofs.port_sets.put.Statement.{statement}
+use Rattle.gateway.proofs.port_sets.put.Tie as tie
 
 -- Adding the bit is at most doubling.
 

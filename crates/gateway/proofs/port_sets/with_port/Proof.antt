@@ -11,8 +11,8 @@ use Rattle.sets.specs.Sets.{setOf, inSet}
 use Rattle.sets.proofs.Sets.{set-below}
 use Rattle.sets.proofs.Bits.{one-bit}
 use Rattle.gateway.proofs.Bits.{in-put, in-had}
-use Rattle.gateway.proofs.ports.with_port.Statement.{statement}
-use Rattle.gateway.proofs.ports.with_port.Tie as tie
+use Rattle.gateway.proofs.port_sets.with_port.Statement.{statement}
+use Rattle.gateway.proofs.port_sets.with_port.Tie as tie
 
 shr-if1 : tie.Need-shr-if1
 shr-if1 c = search needs

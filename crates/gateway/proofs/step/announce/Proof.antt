@@ -3,38 +3,106 @@ use mathlib.Core.Path.{sym, _∙_}
 use native.Mathlib.Nat.{le-trans}
 use native.Mathlib.Omega.{arith}
 use borrow.Author.Needs.{needs}
-use Rattle.gateway.proofs.InBounds.{few-lines, few-ports}
+use denote.Ref.{now}
+use Rattle.gateway_rules.specs.State.{lists}
+use Rattle.gateway.proofs.InBounds.{head-good, few-lines, few-ports}
 use Rattle.gateway.proofs.Marks.{known-line, added-line, opened-port}
 use Rattle.gateway.proofs.step.announce.Statement.{statement}
 use Rattle.gateway.proofs.step.announce.Tie as tie
 
 has-requires : tie.Need-has-requires
-has-requires c κs = few-lines (c .before .before .args .gateway) (c .before .before .pre .0)
+has-requires c κs =
+    let a = c .before .before .before .before .before .before .before .before .before .args in
+    let t = lists (now (a .nodes)) (now (a .starts)) (now (a .ports)) (now (a .sizes)) in
+    (few-lines (a .head) (head-good (a .head) t (c .before .before .before .before .before .before .before .before .before .pre .1 .0)), c .before .before .before .before .before .before .before .before .before .pre .0)
+
+same-length : tie.Need-same-length
+same-length c = search needs
+
+same-length-2 : tie.Need-same-length-2
+same-length-2 c = search needs
+
+same-length-3 : tie.Need-same-length-3
+same-length-3 c = search needs
+
+same-length-4 : tie.Need-same-length-4
+same-length-4 c = search needs
 
 returns : tie.Need-returns
 returns c =
-    let a = c .before .before .before .before .args in
-    known-line (a .gateway) (a .l) (sym (c .before .has .ensures) ∙ c .if1 .taken)
+    let a = c .before .before .before .before .before .before .before .before .before .before .before .args in
+    let t = lists (now (a .nodes)) (now (a .starts)) (now (a .ports)) (now (a .sizes)) in
+    known-line (a .head) t (a .l) (sym (c .before .has .ensures) ∙ c .if1 .taken)
 
-with-line-requires : tie.Need-with-line-requires
-with-line-requires c κs = search needs
+put-line-requires : tie.Need-put-line-requires
+put-line-requires c κs = search needs
+
+add-t30 : tie.Need-add-t30
+add-t30 c = search needs
+
+same-length-5 : tie.Need-same-length-5
+same-length-5 c = search needs
+
+same-length-6 : tie.Need-same-length-6
+same-length-6 c = search needs
+
+same-length-7 : tie.Need-same-length-7
+same-length-7 c = search needs
+
+same-length-8 : tie.Need-same-length-8
+same-length-8 c = search needs
 
 returns-2 : tie.Need-returns-2
 returns-2 c =
-    let a = c .before .before .before .before .before .before .before .args in
-    added-line (a .gateway) (a .l) (c .with-line .result) (sym (c .before .before .before .before .has .ensures) ∙ c .before .before .before .if1 .left) (c .before .if2 .taken) (c .with-line .ensures)
+    let a = c .before .before .before .before .before .before .before .before .before .before .before .before .before .before .before .before .before .before .before .before .before .before .before .before .before .args in
+    let t = lists (now (a .nodes)) (now (a .starts)) (now (a .ports)) (now (a .sizes)) in
+    added-line (a .head) t (a .l) _ (c .before .before .before .before .before .before .before .before .before .before .before .before .before .before .before .before .before .before .before .before .before .before .before .before .before .pre .0) (sym (c .before .before .before .before .before .before .before .before .before .before .before .before .before .before .before .has .ensures) ∙ c .before .before .before .before .before .before .before .before .before .before .before .before .before .before .if1 .left) (c .before .before .before .before .before .before .before .before .before .before .before .before .before .if2 .taken) (c .before .before .before .before .before .before .before .before .put-line .ensures)
 
 with-port-requires : tie.Need-with-port-requires
-with-port-requires c κs = le-trans (c .before .before .before .before .before .before .pre .1) (few-ports (c .before .before .before .before .before .before .args .gateway) (c .before .before .before .before .before .before .pre .0))
+with-port-requires c κs =
+    let a = c .before .before .before .before .before .before .before .before .before .before .before .before .args in
+    let t = lists (now (a .nodes)) (now (a .starts)) (now (a .ports)) (now (a .sizes)) in
+    le-trans (c .before .before .before .before .before .before .before .before .before .before .before .before .pre .1 .1) (few-ports (a .head) (head-good (a .head) t (c .before .before .before .before .before .before .before .before .before .before .before .before .pre .1 .0)))
+
+same-length-9 : tie.Need-same-length-9
+same-length-9 c = search needs
+
+same-length-10 : tie.Need-same-length-10
+same-length-10 c = search needs
+
+same-length-11 : tie.Need-same-length-11
+same-length-11 c = search needs
+
+same-length-12 : tie.Need-same-length-12
+same-length-12 c = search needs
 
 returns-3 : tie.Need-returns-3
 returns-3 c =
-    let a = c .before .before .before .before .before .before .before .args in
-    let new = sym (c .before .before .before .before .has .ensures) ∙ c .before .before .before .if1 .left in
-    let below = le-trans (c .before .before .before .before .before .before .before .pre .1) (few-ports (a .gateway) (c .before .before .before .before .before .before .before .pre .0)) in
-    opened-port (a .gateway) (a .l) (c .with-port .result) new (c .before .if2 .left) (omega arith) below (c .with-port .ensures)
+    let a = c .before .before .before .before .before .before .before .before .before .before .before .before .before .args in
+    let t = lists (now (a .nodes)) (now (a .starts)) (now (a .ports)) (now (a .sizes)) in
+    let below = le-trans (c .before .before .before .before .before .before .before .before .before .before .before .before .before .pre .1 .1) (few-ports (a .head) (head-good (a .head) t (c .before .before .before .before .before .before .before .before .before .before .before .before .before .pre .1 .0))) in
+    opened-port (a .head) t (a .l) (c .with-port .result) (sym (c .before .before .before .has .ensures) ∙ c .before .before .if1 .left) (c .before .if2 .left) (omega arith) below (c .with-port .ensures)
 
 pub announce-spec : {M : Type 1} → statement M
 announce-spec =
     tie.close
-    (tie.spec has-requires returns with-line-requires returns-2 with-port-requires returns-3)
+    (tie.spec
+    has-requires
+    same-length
+    same-length-2
+    same-length-3
+    same-length-4
+    returns
+    put-line-requires
+    add-t30
+    same-length-5
+    same-length-6
+    same-length-7
+    same-length-8
+    returns-2
+    with-port-requires
+    same-length-9
+    same-length-10
+    same-length-11
+    same-length-12
+    returns-3)

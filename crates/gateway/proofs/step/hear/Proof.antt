@@ -1,7 +1,8 @@
 -- A block is announced as a line; nothing announced changes nothing.
 use mathlib.Core.Path.{sym, ap, _∙_}
 use borrow.Author.Needs.{needs}
-use Rattle.gateway_rules.specs.State.{gateOf}
+use denote.Ref.{now}
+use Rattle.gateway_rules.specs.State.{lists, gateIn}
 use Rattle.gateway_rules.specs.Step.{hear}
 use Rattle.gateway.proofs.step.hear.Statement.{statement}
 use Rattle.gateway.proofs.step.hear.Tie as tie
@@ -14,17 +15,41 @@ enum-told c = search needs
 
 returns : tie.Need-returns
 returns c =
-    let a = c .before .before .args in
-    sym (ap (hear (gateOf (a .gateway)) (a .port) (a .node)) (c .enum-told .given .1))
+    let a = c .before .before .before .before .before .before .args in
+    let t = lists (now (a .nodes)) (now (a .starts)) (now (a .ports)) (now (a .sizes)) in
+    sym (ap (hear (gateIn (a .head) t) (a .port) (a .node)) (c .enum-told .given .1))
 
 announce-requires : tie.Need-announce-requires
 announce-requires c κs = search needs
 
+same-length : tie.Need-same-length
+same-length c = search needs
+
+same-length-2 : tie.Need-same-length-2
+same-length-2 c = search needs
+
+same-length-3 : tie.Need-same-length-3
+same-length-3 c = search needs
+
+same-length-4 : tie.Need-same-length-4
+same-length-4 c = search needs
+
 returns-2 : tie.Need-returns-2
 returns-2 c =
-    let a = c .before .before .before .before .args in
-    c .announce .ensures ∙ sym (ap (hear (gateOf (a .gateway)) (a .port) (a .node)) (c .before .before .announcement .given .1))
+    let a = c .before .before .before .before .before .before .before .before .before .before .before .before .before .before .before .before .before .before .before .before .args in
+    let t = lists (now (a .nodes)) (now (a .starts)) (now (a .ports)) (now (a .sizes)) in
+    c .before .before .before .before .before .before .before .before .announce .ensures ∙ sym (ap (hear (gateIn (a .head) t) (a .port) (a .node)) (c .before .before .before .before .before .before .before .before .before .before .before .before .before .before .announcement .given .1))
 
 pub hear-spec : {M : Type 1} → statement M
 hear-spec =
-    tie.close (tie.spec enum-known-announcement enum-told returns announce-requires returns-2)
+    tie.close
+    (tie.spec
+    enum-known-announcement
+    enum-told
+    returns
+    announce-requires
+    same-length
+    same-length-2
+    same-length-3
+    same-length-4
+    returns-2)

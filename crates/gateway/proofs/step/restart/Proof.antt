@@ -1,25 +1,46 @@
 -- The lines are those without the node's; the rest of the state is as it was.
 use Prim.Native.Nat.{ℕ}
 use mathlib.Core.Path.{_≡_}
-use Rattle.gateway_rules.specs.declared.Gateway.{Gateway}
-use Rattle.gateway_rules.specs.declared.Table.{Table}
-use Rattle.gateway_rules.specs.State.{gateOf}
+use borrow.Author.Needs.{needs}
+use denote.Ref.{now}
+use Rattle.gateway_rules.specs.declared.Head.{Head}
+use Rattle.gateway_rules.specs.State.{Lists, lists, gateIn}
 use Rattle.gateway_rules.specs.Step.{ownedAt, restart, without}
-use Rattle.gateway.specs.Answers.{inTable}
-use Rattle.gateway.proofs.InBounds.{few-lines}
+use Rattle.gateway.specs.Answers.{linesIn}
+use Rattle.gateway.proofs.InBounds.{head-good, few-lines}
 use Rattle.gateway.proofs.step.restart.Statement.{statement}
 use Rattle.gateway.proofs.step.restart.Tie as tie
 
-restarted : (g : Gateway) (t : Table) (port node : ℕ) → inTable t ≡ without (ownedAt port node) (inTable (g .table))
-    → gateOf (record { ports = g .ports; automatic = g .automatic; marks = g .marks; table = t }) ≡ restart (gateOf g) port node
-unfolding gateOf
-restarted g t port node e = λ i. record { ports = g .ports; automatic = g .automatic; lines = e i; marked = gateOf g .marked }
+restarted : (head : Head) (t after : Lists) (count port node : ℕ) → linesIn count after ≡ without (ownedAt port node) (linesIn (head .count) t)
+    → gateIn (record { ports = head .ports; marks = head .marks; automatic = head .automatic; count = count }) after ≡ restart (gateIn head t) port node
+unfolding gateIn
+restarted head t after count port node e = λ i. record { ports = head .ports; automatic = head .automatic; lines = e i; marked = gateIn head t .marked }
 
 without-owned-requires : tie.Need-without-owned-requires
-without-owned-requires c κs = few-lines (c .before .before .args .gateway) (c .before .before .pre)
+without-owned-requires c κs =
+    let a = c .before .before .before .before .before .before .before .before .before .args in
+    let t = lists (now (a .nodes)) (now (a .starts)) (now (a .ports)) (now (a .sizes)) in
+    (few-lines (a .head) (head-good (a .head) t (c .before .before .before .before .before .before .before .before .before .pre .1)), c .before .before .before .before .before .before .before .before .before .pre .0)
+
+same-length : tie.Need-same-length
+same-length c = search needs
+
+same-length-2 : tie.Need-same-length-2
+same-length-2 c = search needs
+
+same-length-3 : tie.Need-same-length-3
+same-length-3 c = search needs
+
+same-length-4 : tie.Need-same-length-4
+same-length-4 c = search needs
 
 returns : tie.Need-returns
-returns c = let a = c .before .before .before .args in restarted (a .gateway) (c .without-owned .result) (a .port) (a .node) (c .without-owned .ensures)
+returns c =
+    let a = c .before .before .before .before .before .before .before .before .before .before .before .before .before .before .before .before .before .before .args in
+    let t = lists (now (a .nodes)) (now (a .starts)) (now (a .ports)) (now (a .sizes)) in
+    restarted (a .head) t _ (c .before .before .before .before .before .before .before .before .without-owned .result) (a .port) (a .node) (c .before .before .before .before .before .before .before .before .without-owned .ensures)
 
 pub restart-spec : {M : Type 1} → statement M
-restart-spec = tie.close (tie.spec without-owned-requires returns)
+restart-spec =
+    tie.close
+    (tie.spec without-owned-requires same-length same-length-2 same-length-3 same-length-4 returns)

@@ -1,0 +1,49 @@
+-- A step on lent lists: with 256 places each it is the step of the box.
+use Prim.Native.Nat.{ℕ}
+use mathlib.Core.Path.{_≡_, sym, ap, _∙_}
+use mathlib.Core.Bool.{Bool, true, false, cond, not, _||_}
+use mathlib.Core.List.{List}
+use borrow.Author.Tests.{eqb-true, not-false}
+use lib.Dec.{eqb}
+use lib.ListN.{length}
+use Rattle.message.proofs.Writings.{neither}
+use Rattle.sets.proofs.Sets.{nobody}
+use Rattle.gateway_rules.specs.declared.Head.{Head}
+use Rattle.gateway_rules.specs.State.{Lists, gateIn}
+use Rattle.gateway_rules.specs.Step.{Outcome, refusing, step}
+use Rattle.gateway.specs.declared.LentAnswer.{LentAnswer}
+use Rattle.gateway.specs.Answers.{Whole, seenLent, seenOf, badLengths, lentStep}
+
+-- What a refusal says.
+pub refusal-told : (head : Head) (t : Lists) (r : LentAnswer) (n : ℕ) → (r .refusal ≡ n) × (r .sent ≡ 0) × (r .head ≡ head) → seenLent r t ≡ seenOf (refusing (gateIn head t) n)
+refusal-told head t r n (number, nowhere, same) = λ i. record { refusal = number i; sent = (nowhere ∙ sym (nobody 8)) i; gate = gateIn (same i) t }
+
+abbrev pub bad : Lists → Bool
+bad t = badLengths (length (t .nodes)) (length (t .starts)) (length (t .ports)) (length (t .sizes))
+
+abbrev by-lengths : Head → Lists → ℕ → List ℕ → Bool → Outcome
+by-lengths head t q bytes y = cond y (refusing (gateIn head t) 7) (step (gateIn head t) q bytes)
+
+not-bad : (t : Lists) → Whole t → bad t ≡ false
+not-bad t w = rw (w .0, w .1, w .2, w .3)
+
+module _ (head : Head) (t : Lists) (q : ℕ) (bytes : List ℕ) where
+  pub unlike : bad t ≡ true → refusing (gateIn head t) 7 ≡ lentStep head t q bytes
+  unlike e = sym (ap (by-lengths head t q bytes) e)
+
+  pub alike : bad t ≡ false → step (gateIn head t) q bytes ≡ lentStep head t q bytes
+  alike e = sym (ap (by-lengths head t q bytes) e)
+
+  pub whole-step : Whole t → lentStep head t q bytes ≡ step (gateIn head t) q bytes
+  whole-step w = sym (alike (not-bad t w))
+
+-- Lists of 256 places each.
+pub all-whole : (t : Lists) → bad t ≡ false → Whole t
+all-whole t e =
+    let h = neither (not (eqb (length (t .nodes)) 256)) (not (eqb (length (t .starts)) 256) || (not (eqb (length (t .ports)) 256) || not (eqb (length (t .sizes)) 256))) e in
+    let k = neither (not (eqb (length (t .starts)) 256)) (not (eqb (length (t .ports)) 256) || not (eqb (length (t .sizes)) 256)) (h .1) in
+    let v = neither (not (eqb (length (t .ports)) 256)) (not (eqb (length (t .sizes)) 256)) (k .1) in
+    (is-whole (t .nodes) (h .0), is-whole (t .starts) (k .0), is-whole (t .ports) (v .0), is-whole (t .sizes) (v .1))
+  where
+    is-whole : (xs : List ℕ) → not (eqb (length xs) 256) ≡ false → length xs ≡ 256
+    is-whole xs e = eqb-true (length xs) 256 (not-false (eqb (length xs) 256) e)
