@@ -9,8 +9,17 @@
 #define PANEL UINT64_C(0x0A0000000001)
 #define POINTS UINT64_C(0x0A00000000070001)
 
-/* The box keeps nothing by itself: its state is ours, and each call gives the next one back. */
+/* The box keeps nothing by itself: its state is ours, and each message changes it where it stands. */
 static hrislanoth_gateway box;
+
+/* Lends the box's lists for one call; the rest of the box comes back with the answer. */
+static hrislanoth_lent_answer in_place(uint8_t port, const uint8_t *bytes, size_t length)
+{
+    hrislanoth_lent_answer answer =
+        hrislanoth_receive_lent(box.head, box.nodes, 256, box.starts, 256, box.ports, 256, box.sizes, 256, port, bytes, length);
+    box.head = answer.head;
+    return answer;
+}
 
 static void at_port(const char *what, uint8_t port, hrislanoth_message message, const uint8_t *content, size_t length)
 {
@@ -20,13 +29,12 @@ static void at_port(const char *what, uint8_t port, hrislanoth_message message, 
         printf("%s: not written, refusal %d\n", what, written.refusal);
         return;
     }
-    hrislanoth_answer answer = hrislanoth_receive(box, port, bytes, written.bytes);
-    box = answer.gateway;
+    hrislanoth_lent_answer answer = in_place(port, bytes, written.bytes);
     printf("%s: refusal %d, sent to", what, answer.refusal);
-    for (int p = 0; p < box.ports; p++)
+    for (int p = 0; p < box.head.ports; p++)
         if (answer.sent >> p & 1)
             printf(" %d", p);
-    printf("; %zu lines\n", box.table.count);
+    printf("; %zu lines\n", box.head.count);
 }
 
 static void with_event(const char *what, uint8_t port, uint16_t mti, uint64_t source, uint64_t event)

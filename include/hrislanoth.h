@@ -3,9 +3,10 @@
  * Every function answers every input that C can write down: a refusal has a number (document 01, "Refusal numbers"), 0 is none, and beside a refusal
  * every other number is 0, no output byte changes and a box comes back as it was. Nothing is kept between calls and nothing is allocated.
  *
- * Memory is the caller's. A pointer and a length stand for bytes that the caller owns, that stay as they are for the call, and that no other thread writes
- * meanwhile. No pointer is kept. A pointer is never NULL, not even beside the length 0. Bytes that are written (out, text) overlap no other bytes of
- * the same call. Those three are all that a caller has to keep; nothing tests them.
+ * Memory is the caller's. A pointer and a length stand for that many bytes, or that many numbers of a list, which the caller owns and keeps for the call,
+ * and which no other thread writes meanwhile, or reads where the call writes. No pointer is kept. A pointer is never NULL, not even beside the length 0.
+ * What a call writes (out, text, a box's four lists) overlaps nothing else that it is given: the lists neither each other nor the bytes. Those three are
+ * all that a caller has to keep; nothing tests them.
  *
  * Link with target/staticlib/libface.a, which `rt staticlib face` writes, on x86-64.
  */
@@ -71,23 +72,21 @@ hrislanoth_writing hrislanoth_write(hrislanoth_message message, const uint8_t *c
 
 /* ---- the box */
 
-typedef struct {
-    uint8_t port;
-    uint64_t node;
-    hrislanoth_block block;
-} hrislanoth_line;
-
-typedef struct {
-    hrislanoth_line lines[256];
-    size_t count;
-} hrislanoth_table;
-
-/* Bit p of marks is the open mark of port p. Lines past the count are no part of the state. */
+/* A box but for its lines. Bit p of marks is the open mark of port p; count is the number of lines. */
 typedef struct {
     uint8_t ports;
-    hrislanoth_block automatic;
     uint8_t marks;
-    hrislanoth_table table;
+    hrislanoth_block automatic;
+    size_t count;
+} hrislanoth_head;
+
+/* Line i is of node nodes[i] at port ports[i], for 2^sizes[i] events from starts[i] on. Places past the count are no part of the state. */
+typedef struct {
+    hrislanoth_head head;
+    uint64_t nodes[256];
+    uint64_t starts[256];
+    uint8_t ports[256];
+    uint8_t sizes[256];
 } hrislanoth_gateway;
 
 /* The refusal or 0, the ports that it is sent to, bit p for port p, and the box afterwards. */
@@ -97,11 +96,24 @@ typedef struct {
     hrislanoth_gateway gateway;
 } hrislanoth_answer;
 
+/* The same where a box's lists are lent: its lines afterwards stand in those. */
+typedef struct {
+    uint8_t refusal;
+    uint8_t sent;
+    hrislanoth_head head;
+} hrislanoth_lent_answer;
+
 /* A box with no lines and no open marks. 8 where ports is not 2 to 8: the box then has 0 ports. */
 hrislanoth_answer hrislanoth_start(uint8_t ports, uint64_t automatic);
 
 /* A message at a port. 7 where the box is out of bounds, 8 where it has no such port, 1 to 5 where the message cannot be read. */
 hrislanoth_answer hrislanoth_receive(hrislanoth_gateway gateway, uint8_t port, const uint8_t *bytes, size_t length);
+
+/* The same in place, on the four lists of a box: 7 before all else where a list is not exactly 256 long, otherwise what hrislanoth_receive answers.
+ * The lines change in the caller's lists; the rest of the box afterwards is the answer's head. A refusal changes nothing in any list. */
+hrislanoth_lent_answer hrislanoth_receive_lent(hrislanoth_head head, uint64_t *nodes, size_t nodes_length, uint64_t *starts, size_t starts_length,
+                                               uint8_t *ports, size_t ports_length, uint8_t *sizes, size_t sizes_length, uint8_t port,
+                                               const uint8_t *bytes, size_t length);
 
 /* ---- files */
 

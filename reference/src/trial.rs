@@ -66,6 +66,19 @@ fn entries_of(file: &[u8]) -> Option<Vec<Entry>> {
     Some(entries)
 }
 
+/// The file of these entries, each a port and a body (01-scope, Trial program, the contents table).
+pub fn file_of(entries: &[(u8, Vec<u8>)]) -> Vec<u8> {
+    let mut file = (entries.len() as u16).to_be_bytes().to_vec();
+    for (port, body) in entries {
+        file.push(*port);
+        file.extend((body.len() as u16).to_be_bytes());
+    }
+    for (_, body) in entries {
+        file.extend(body);
+    }
+    file
+}
+
 /// The line of one entry: number, ports or refusal, lines in the table (01-scope, Trial program).
 fn line_of(gateway: &mut Gateway, place: usize, entry: &Entry) -> String {
     let outcome = gateway.receive(entry.port, &entry.body);
@@ -97,20 +110,8 @@ mod tests {
             .collect()
     }
 
-    fn file(entries: &[(u8, Vec<u8>)]) -> Vec<u8> {
-        let mut file = (entries.len() as u16).to_be_bytes().to_vec();
-        for (port, body) in entries {
-            file.push(*port);
-            file.extend((body.len() as u16).to_be_bytes());
-        }
-        for (_, body) in entries {
-            file.extend(body);
-        }
-        file
-    }
-
     fn example() -> Vec<u8> {
-        file(&[
+        file_of(&[
             (1, bytes_of("04C4 0A0000000001 0A00000000010001")),
             (0, bytes_of("05B4 0A0000000009 0A00000000010001")),
             (1, bytes_of("0100 0A0000000002 0A0000000002")),
@@ -143,19 +144,19 @@ mod tests {
         let mut shorter = example();
         shorter.pop();
         assert_eq!(trial_text(&shorter), BAD_FILE);
-        let most = file(&vec![(0, Vec::new()); 1000]);
+        let most = file_of(&vec![(0, Vec::new()); 1000]);
         assert_eq!(trial_text(&most).split(|byte| *byte == b'\n').count(), 1001);
         assert!(trial_text(&most).starts_with(b"0 refused 1 0\n1 refused 1 0\n"));
-        assert_eq!(trial_text(&file(&vec![(0, Vec::new()); 1001])), BAD_FILE);
+        assert_eq!(trial_text(&file_of(&vec![(0, Vec::new()); 1001])), BAD_FILE);
     }
 
     /// 01-scope, Trial program: at most 65,536 bytes, both sides.
     #[test]
     fn longest_file() {
-        let longest = file(&[(0, vec![0; 32_768]), (0, vec![0; 32_760])]);
+        let longest = file_of(&[(0, vec![0; 32_768]), (0, vec![0; 32_760])]);
         assert_eq!(longest.len(), 65_536);
         assert_eq!(trial_text(&longest), b"0 refused 3 0\n1 refused 3 0\n");
-        let longer = file(&[(0, vec![0; 32_768]), (0, vec![0; 32_761])]);
+        let longer = file_of(&[(0, vec![0; 32_768]), (0, vec![0; 32_761])]);
         assert_eq!(trial_text(&longer), BAD_FILE);
     }
 }

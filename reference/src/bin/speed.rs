@@ -10,6 +10,7 @@ mod quick;
 #[path = "speed/rows.rs"]
 mod rows;
 
+use std::fmt::Display;
 use std::process::ExitCode;
 use std::time::{Duration, Instant};
 
@@ -17,10 +18,12 @@ use rows::{Call, Row, COLUMNS};
 
 const ROUNDS: usize = 31;
 const ROUND_TIME: Duration = Duration::from_millis(5);
-const USAGE: &str = "speed | speed --rows | speed --count ROW proved|checked|unchecked N";
-const NOTES: &str = "checked: the reference with document 01's test of the whole state first; unchecked: without it. - where there is no state.
-announce-new and restart: every call on a fresh copy of the state, the copy counted in; copy is that copy alone.
-Output buffers (trial, write) are not cleared between calls.";
+const USAGE: &str =
+    "speed | speed --rows | speed --count ROW proved|'by value'|checked|unchecked N";
+const NOTES: &str = "proved: the box's call in place on lent lists; by value: the same work through the call that takes the state and gives the next one back.
+checked: the box without proofs, with document 01's test of the whole state first; unchecked: without it. - where there is no such call.
+announce-new and restart: every call on a fresh copy of the state, the copy counted in, by value the call's own; copy is that copy alone.
+The ratios are of proved. Output buffers (trial, write) are not cleared between calls.";
 
 fn main() -> ExitCode {
     let arguments: Vec<String> = std::env::args().skip(1).collect();
@@ -78,30 +81,24 @@ fn measure() {
 }
 
 /// ns per call in every round of a column, the fastest first; none where the column is empty.
-type Rounds = [Vec<f64>; 3];
+type Rounds = [Vec<f64>; COLUMNS.len()];
 
 fn print_table(measured: &[(&str, Rounds)], place: usize) {
-    let [proved, checked, unchecked] = COLUMNS;
-    print_line(
-        "row",
-        [proved, checked, unchecked, "p/checked", "p/unchecked"],
-    );
+    let ratios = ["p/checked", "p/unchecked"];
+    print_line("row", COLUMNS.into_iter().chain(ratios));
     for (name, rounds) in measured {
-        let [proved, checked, unchecked] = rounds.each_ref().map(|all| all.get(place).copied());
-        let cells = [
-            shown(proved, 1),
-            shown(checked, 1),
-            shown(unchecked, 1),
-            shown(ratio(proved, checked), 2),
-            shown(ratio(proved, unchecked), 2),
-        ];
-        print_line(name, cells.each_ref().map(String::as_str));
+        let figures = rounds.each_ref().map(|all| all.get(place).copied());
+        let [proved, _, checked, unchecked] = figures;
+        let ratios = [ratio(proved, checked), ratio(proved, unchecked)];
+        let figures = figures.map(|figure| shown(figure, 1));
+        let ratios = ratios.map(|ratio| shown(ratio, 2));
+        print_line(name, figures.into_iter().chain(ratios));
     }
 }
 
-fn print_line(name: &str, cells: [&str; 5]) {
-    let cells = cells.map(|cell| format!("{cell:>12}"));
-    println!("{name:<16}{}", cells.concat());
+fn print_line(name: &str, cells: impl Iterator<Item = impl Display>) {
+    let cells: String = cells.map(|cell| format!("{cell:>12}")).collect();
+    println!("{name:<16}{cells}");
 }
 
 fn shown(figure: Option<f64>, decimals: usize) -> String {

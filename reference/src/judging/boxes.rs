@@ -1,17 +1,18 @@
-//! The box: starts, histories from a start, and histories from states laid out by hand.
+//! The box: starts, histories from a start, and histories from states laid out by hand, each message by value and in place.
 
 use std::collections::BTreeSet;
 use std::fmt::{self, Debug, Formatter};
 
-use reference::gateway;
-use reference::proved::{self, Block, Gateway, Line};
+use reference::gateway::{self, Line};
+use reference::proved::{self, Block, Gateway, Head, PLACES};
 
 use super::counts::WAY_COUNT;
 use super::histories::{any_history, history_in, Arrival};
-use super::laid_out::{any_numbers, Layout, PLACES};
+use super::laid_out::{any_numbers, Layout};
+use super::lengths;
 use super::observed;
 use super::random::Dice;
-use super::witness::{Hex, Witness};
+use super::witness::Witness;
 use super::world::{Area, World};
 
 /// What a call answers, and the whole state after it.
@@ -19,10 +20,7 @@ use super::world::{Area, World};
 struct Answer {
     refusal: u8,
     sent: u8,
-    ports: u8,
-    automatic: Block,
-    marks: u8,
-    count: usize,
+    head: Head,
     lines: Lines,
 }
 
@@ -36,16 +34,22 @@ impl Debug for Lines {
             return write!(out, "..");
         }
         for line in &self.0 {
-            let Block { start, k } = line.block;
-            write!(out, "\n{} {:X} {start:016X} {k}", line.port, line.node)?;
+            let Line {
+                port,
+                node,
+                start,
+                k,
+            } = line;
+            write!(out, "\n{port} {node:X} {start:016X} {k}")?;
         }
         Ok(())
     }
 }
 
-/// The box on both sides.
-struct Pair {
-    proved: Gateway,
+/// The box on both sides, on the proved side once for each of the two calls.
+struct Boxes {
+    by_value: Gateway,
+    in_place: Gateway,
     reference: gateway::Gateway,
     /// Lines that only the proved side is told of, where no list could be as long.
     told: usize,
@@ -65,23 +69,23 @@ pub fn judge(dice: &mut Dice, witness: &mut Witness) {
 fn judge_history(dice: &mut Dice, witness: &mut Witness) {
     let ports = dice.between(2, 8) as u8;
     let automatic = Area::any_automatic(dice);
-    let Some(pair) = started(witness, ports, automatic.number) else {
+    let Some(boxes) = started(witness, ports, automatic.number) else {
         return;
     };
     let arrivals = any_history(dice, ports, automatic);
-    follow(dice, witness, pair, &arrivals);
+    follow(dice, witness, boxes, &arrivals);
 }
 
 /// A start with a port count that is none; every message is refused after it.
 fn judge_refused_start(dice: &mut Dice, witness: &mut Witness) {
     let ports = dice.pick(&[0, 1, 9, 10, 16, 127, 128, 255]);
     let automatic = Area::any_automatic(dice);
-    let Some(pair) = started(witness, ports, automatic.number) else {
+    let Some(boxes) = started(witness, ports, automatic.number) else {
         return;
     };
     let world = World::new(dice, 2, 2, automatic);
     let arrivals = history_in(dice, 8, world);
-    follow(dice, witness, pair, &arrivals[..arrivals.len().min(3)]);
+    follow(dice, witness, boxes, &arrivals[..arrivals.len().min(3)]);
 }
 
 /// A history from a state in bounds that need not come from a start.
@@ -91,11 +95,11 @@ fn judge_layout(dice: &mut Dice, witness: &mut Witness) {
     let mut world = World::new(dice, 3, events, automatic);
     world.longest_run = dice.pick(&[1, 64]);
     let layout = Layout::in_bounds(dice, &world, automatic);
-    let pair = Pair::of_layout(dice, &layout);
+    let boxes = Boxes::of_layout(dice, &layout);
     let reports = (0..4).filter_map(|_| layout.report_of_a_line(dice, &world));
     let mut arrivals: Vec<Arrival> = reports.collect();
     arrivals.extend(history_in(dice, layout.ports, world));
-    follow(dice, witness, pair, &arrivals);
+    follow(dice, witness, boxes, &arrivals);
 }
 
 /// A state out of bounds in one way only: every message is refused and nothing changes.
@@ -107,62 +111,53 @@ fn judge_out_of_bounds(dice: &mut Dice, witness: &mut Witness) {
     let way = dice.between(0, WAY_COUNT - 1);
     layout.spoil(dice, way);
     witness.column.ways[way] += 1;
-    let pair = Pair::of_layout(dice, &layout);
-    follow(dice, witness, pair, &arrivals[..arrivals.len().min(4)]);
+    let boxes = Boxes::of_layout(dice, &layout);
+    follow(dice, witness, boxes, &arrivals[..arrivals.len().min(4)]);
 }
 
 /// Starts a box on both sides; nothing where they differ.
-fn started(witness: &mut Witness, ports: u8, number: u64) -> Option<Pair> {
+fn started(witness: &mut Witness, ports: u8, number: u64) -> Option<Boxes> {
     let answer = proved::start(ports, number);
     let (reference, refusal) = gateway::Gateway::start(u32::from(ports), number);
     witness.column.saw_answer(refusal);
-    let pair = Pair {
-        proved: answer.gateway,
+    let boxes = Boxes {
+        by_value: answer.gateway,
+        in_place: answer.gateway,
         reference,
         told: 0,
     };
-    let ours = pair.proved_answer(answer.refusal, answer.sent);
-    let theirs = pair.reference_answer(refusal, 0);
+    let ours = proved_answer(&answer.gateway, answer.refusal, answer.sent);
+    let theirs = boxes.reference_answer(refusal, 0);
     let asked = || format!("start with {ports:02X} ports, automatic {number:016X}");
-    witness.compare(asked, &ours, &theirs).then_some(pair)
+    witness.compare(asked, &ours, &theirs).then_some(boxes)
 }
 
-/// Puts messages to both sides, up to the first difference.
-fn follow(dice: &mut Dice, witness: &mut Witness, mut pair: Pair, arrivals: &[Arrival]) {
-    let before = pair.proved_answer(0, 0);
+/// Puts messages to both sides, up to the first difference, and last one of them with a list of another length.
+fn follow(dice: &mut Dice, witness: &mut Witness, mut boxes: Boxes, arrivals: &[Arrival]) {
+    let before = proved_answer(&boxes.by_value, 0, 0);
     witness.show(|| format!("before the first message: {before:#X?}"));
     let asked = || "nothing; the same state on both sides".to_string();
-    witness.compare(asked, &before, &pair.reference_answer(0, 0));
+    witness.compare(asked, &before, &boxes.reference_answer(0, 0));
     let litter = dice.chance(30);
     for arrival in arrivals {
         if litter {
-            pair.litter(dice);
+            boxes.litter(dice);
         }
-        if !step(witness, &mut pair, arrival) {
+        if !boxes.step(witness, arrival) {
             return;
         }
     }
+    let place = dice.between(0, arrivals.len() - 1);
+    lengths::judge(dice, witness, &boxes.in_place, &arrivals[place]);
 }
 
-/// Puts one message to both sides; whether they agree.
-fn step(witness: &mut Witness, pair: &mut Pair, arrival: &Arrival) -> bool {
-    let answer = proved::receive(&pair.proved, arrival.port, &arrival.bytes);
-    let outcome = observed::receive(&mut pair.reference, arrival, witness.column);
-    pair.proved = answer.gateway;
-    let ours = pair.proved_answer(answer.refusal, answer.sent);
-    let theirs = pair.reference_answer(outcome.refusal, bits(&outcome.sent));
-    let asked = || {
-        let bytes = Hex(arrival.bytes.clone());
-        format!("receive at port {:02X}: {bytes:?}", arrival.port)
-    };
-    witness.compare(asked, &ours, &theirs)
-}
-
-impl Pair {
+impl Boxes {
     /// Both sides in a state that is laid out.
-    fn of_layout(dice: &mut Dice, layout: &Layout) -> Pair {
-        Pair {
-            proved: layout.for_proved(dice),
+    fn of_layout(dice: &mut Dice, layout: &Layout) -> Boxes {
+        let proved = layout.for_proved(dice);
+        Boxes {
+            by_value: proved,
+            in_place: proved,
             reference: layout.for_reference(),
             told: layout.told,
         }
@@ -170,26 +165,55 @@ impl Pair {
 
     /// Any numbers in two places past the lines, which are no part of the state.
     fn litter(&mut self, dice: &mut Dice) {
-        let count = self.proved.table.count;
+        let count = self.by_value.head.count;
         if count < PLACES {
             let place = dice.between(count, PLACES - 1);
-            self.proved.table.lines[count] = any_numbers(dice);
-            self.proved.table.lines[place] = any_numbers(dice);
+            for (place, line) in [(count, any_numbers(dice)), (place, any_numbers(dice))] {
+                self.by_value.set_line(place, &line);
+                self.in_place.set_line(place, &line);
+            }
         }
     }
 
-    /// The proved side's answer and state.
-    fn proved_answer(&self, refusal: u8, sent: u8) -> Answer {
-        let table = &self.proved.table;
-        Answer {
-            refusal,
-            sent,
-            ports: self.proved.ports,
-            automatic: self.proved.automatic,
-            marks: self.proved.marks,
-            count: table.count,
-            lines: Lines(table.lines[..table.count.min(PLACES)].to_vec()),
+    /// Puts one message to both sides; whether they agree.
+    fn step(&mut self, witness: &mut Witness, arrival: &Arrival) -> bool {
+        let outcome = observed::receive(&mut self.reference, arrival, witness.column);
+        let expected = self.reference_answer(outcome.refusal, bits(&outcome.sent));
+        let by_value = self.step_by_value(witness, arrival, &expected);
+        let in_place = self.step_in_place(witness, arrival, &expected);
+        by_value && in_place
+    }
+
+    /// Puts one message to the call by value; whether its answer is the expected one.
+    fn step_by_value(
+        &mut self,
+        witness: &mut Witness,
+        arrival: &Arrival,
+        expected: &Answer,
+    ) -> bool {
+        let answer = proved::receive(&self.by_value, arrival.port, &arrival.bytes);
+        self.by_value = answer.gateway;
+        let ours = proved_answer(&self.by_value, answer.refusal, answer.sent);
+        witness.compare(|| arrival.put("by value"), &ours, expected)
+    }
+
+    /// Puts one message to the call in place; whether its answer is the expected one, and a refusal leaves every place of the lists as it was.
+    fn step_in_place(
+        &mut self,
+        witness: &mut Witness,
+        arrival: &Arrival,
+        expected: &Answer,
+    ) -> bool {
+        let before = all_places(&self.in_place);
+        let (refusal, sent) =
+            proved::receive_lent(&mut self.in_place, arrival.port, &arrival.bytes);
+        let ours = proved_answer(&self.in_place, refusal, sent);
+        let same = witness.compare(|| arrival.put("in place"), &ours, expected);
+        if expected.refusal == 0 {
+            return same;
         }
+        let asked = || "nothing; every place of the lists after the refusal".to_string();
+        witness.compare(asked, &all_places(&self.in_place), &before) && same
     }
 
     /// The reference's answer and state.
@@ -199,25 +223,30 @@ impl Pair {
         Answer {
             refusal,
             sent,
-            ports: self.reference.ports as u8,
-            automatic: Block { start, k: k as u8 },
-            marks: bits(&self.reference.open),
-            count: self.reference.lines.len() + self.told,
-            lines: Lines(lines.map(proved_line).collect()),
+            head: Head {
+                ports: self.reference.ports as u8,
+                marks: bits(&self.reference.open),
+                automatic: Block { start, k: k as u8 },
+                count: self.reference.lines.len() + self.told,
+            },
+            lines: Lines(lines.copied().collect()),
         }
     }
 }
 
-/// A line as the proved side has it.
-fn proved_line(line: &gateway::Line) -> Line {
-    Line {
-        port: line.port as u8,
-        node: line.node,
-        block: Block {
-            start: line.start,
-            k: line.k as u8,
-        },
+/// The proved side's answer and state.
+fn proved_answer(gateway: &Gateway, refusal: u8, sent: u8) -> Answer {
+    Answer {
+        refusal,
+        sent,
+        head: gateway.head,
+        lines: Lines(gateway.lines()),
     }
+}
+
+/// What stands in the lists, past the count too.
+fn all_places(gateway: &Gateway) -> Lines {
+    Lines((0..PLACES).map(|place| gateway.line(place)).collect())
 }
 
 /// A set of ports as bits.

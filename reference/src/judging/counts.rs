@@ -36,6 +36,21 @@ const WAYS: [&str; 10] = [
 ];
 /// How many ways there are.
 pub const WAY_COUNT: usize = WAYS.len();
+/// The lists of the call in place that are not as long as they should be.
+const LENGTHS: [&str; 10] = [
+    "list too short: nodes",
+    "list too long: nodes",
+    "list too short: starts",
+    "list too long: starts",
+    "list too short: ports",
+    "list too long: ports",
+    "list too short: sizes",
+    "list too long: sizes",
+    "list too short: all four",
+    "list too long: all four",
+];
+/// How many of these there are.
+pub const LENGTH_COUNT: usize = LENGTHS.len();
 /// The refusals from 0, which is none, to 14.
 const REFUSALS: usize = 15;
 /// The sorts, a column each.
@@ -55,6 +70,7 @@ pub struct Column {
     blocks: [u64; SIZES.len()],
     boards: [u64; BOARDS.len()],
     pub ways: [u64; WAY_COUNT],
+    pub lengths: [u64; LENGTH_COUNT],
 }
 
 impl Column {
@@ -132,6 +148,9 @@ fn print_what_was_met(columns: &Columns) {
     });
     for (place, label) in WAYS.iter().enumerate() {
         print_row(label, columns, |column| column.ways[place]);
+    }
+    for (place, label) in LENGTHS.iter().enumerate() {
+        print_row(label, columns, |column| column.lengths[place]);
     }
 }
 

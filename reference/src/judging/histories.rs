@@ -2,6 +2,7 @@
 
 use super::parts::{any_mti, bytes_damaged_at_times, Parts};
 use super::random::Dice;
+use super::witness::Hex;
 use super::world::{Area, World};
 
 /// A message at a port.
@@ -9,6 +10,14 @@ use super::world::{Area, World};
 pub struct Arrival {
     pub port: u8,
     pub bytes: Vec<u8>,
+}
+
+impl Arrival {
+    /// What is asked where the message is put in this way.
+    pub fn put(&self, way: &str) -> String {
+        let bytes = Hex(self.bytes.clone());
+        format!("receive {way} at port {:02X}: {bytes:?}", self.port)
+    }
 }
 
 /// How often each thing happens, as weights, and how many messages in a hundred are damaged.

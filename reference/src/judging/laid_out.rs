@@ -2,21 +2,18 @@
 
 use std::collections::BTreeSet;
 
-use reference::gateway;
-use reference::proved::{Block, Gateway, Line, Table};
+use reference::gateway::{self, Line};
+use reference::proved::{Block, Gateway, Head, PLACES};
 
 use super::histories::Arrival;
 use super::parts::Parts;
 use super::random::Dice;
 use super::world::{low_bits, Area, World, HIGHEST_NODE};
 
-/// The places of the proved table.
-pub const PLACES: usize = 256;
-
 /// A state as both sides can take it; more lines than the table has places are there for the reference's sake.
 pub struct Layout {
     pub ports: u8,
-    automatic: Block,
+    automatic: (u64, u32),
     marks: u8,
     lines: Vec<Line>,
     /// Lines that the proved side is told of beyond those laid out.
@@ -24,52 +21,46 @@ pub struct Layout {
 }
 
 /// A block that ends in zeros, k from 0 to 64.
-fn any_block(dice: &mut Dice, world: &World) -> Block {
+fn any_block(dice: &mut Dice, world: &World) -> (u64, u32) {
     let event = world.event(dice);
     let k = dice
         .pick(&[0, 0, 1, 2, 8, 16, 48, 63, 64])
         .min(world.longest_run) as u32;
-    Block {
-        start: event & !low_bits(k),
-        k: k as u8,
-    }
+    (event & !low_bits(k), k)
 }
 
 /// A start that is no multiple of 2^k, and the k.
-fn crooked_block(dice: &mut Dice) -> Block {
+fn crooked_block(dice: &mut Dice) -> (u64, u32) {
     let k = dice.between(1, 64) as u32;
-    Block {
-        start: dice.number() & !low_bits(k) | 1 << dice.below(u64::from(k)),
-        k: k as u8,
-    }
+    let start = dice.number() & !low_bits(k) | 1 << dice.below(u64::from(k));
+    (start, k)
 }
 
 /// A k that is none, beside the start that every k allows.
-fn endless_block(dice: &mut Dice) -> Block {
-    Block {
-        start: 0,
-        k: dice.pick(&[65, 66, 128, 255]),
-    }
+fn endless_block(dice: &mut Dice) -> (u64, u32) {
+    (0, dice.pick(&[65, 66, 128, 255]))
 }
 
 /// A line in bounds.
 fn any_line(dice: &mut Dice, ports: u8, world: &World) -> Line {
+    let port = dice.below(u64::from(ports)) as u32;
+    let node = world.node(dice);
+    let (start, k) = any_block(dice, world);
     Line {
-        port: dice.below(u64::from(ports)) as u8,
-        node: world.node(dice),
-        block: any_block(dice, world),
+        port,
+        node,
+        start,
+        k,
     }
 }
 
-/// A line of any numbers at all.
+/// A line of any numbers that the proved table has room for.
 pub fn any_numbers(dice: &mut Dice) -> Line {
     Line {
-        port: dice.number() as u8,
+        port: u32::from(dice.number() as u8),
         node: dice.number(),
-        block: Block {
-            start: dice.number(),
-            k: dice.number() as u8,
-        },
+        start: dice.number(),
+        k: u32::from(dice.number() as u8),
     }
 }
 
@@ -90,10 +81,7 @@ impl Layout {
         let marks = dice.pick(&[0, 0, 0xFF, any_marks]);
         Layout {
             ports,
-            automatic: Block {
-                start: automatic.first,
-                k: automatic.run as u8,
-            },
+            automatic: (automatic.first, automatic.run),
             marks: marks & low_bits(u32::from(ports)) as u8,
             lines,
             told: 0,
@@ -105,12 +93,12 @@ impl Layout {
         match way {
             0 => self.set_ports(dice.pick(&[0, 1, 9, 10, 255])),
             1 => self.lengthen(dice),
-            2 => self.some_line(dice).port = dice.pick(&[self.ports, 8, 255]),
+            2 => self.some_line(dice).port = dice.pick(&[self.ports.into(), 8, 255]),
             3 => self.some_line(dice).node = dice.pick(&[0, HIGHEST_NODE + 1, u64::MAX]),
-            4 => self.some_line(dice).block = endless_block(dice),
-            5 => self.some_line(dice).block = crooked_block(dice),
+            4 => self.set_block_of_a_line(endless_block(dice), dice),
+            5 => self.set_block_of_a_line(crooked_block(dice), dice),
             6 => self.mark_a_missing_port(dice),
-            7 => self.automatic.k = 0,
+            7 => self.automatic.1 = 0,
             8 => self.automatic = endless_block(dice),
             _ => self.automatic = crooked_block(dice),
         }
@@ -124,13 +112,20 @@ impl Layout {
         self.told = dice.pick(&[0, 0, 1 << 32, usize::MAX - count]);
     }
 
+    /// Another block for one of the lines.
+    fn set_block_of_a_line(&mut self, block: (u64, u32), dice: &mut Dice) {
+        let line = self.some_line(dice);
+        (line.start, line.k) = block;
+    }
+
     /// One of the lines; the first is made where there is none.
     fn some_line(&mut self, dice: &mut Dice) -> &mut Line {
         if self.lines.is_empty() {
             self.lines.push(Line {
                 port: 0,
                 node: 1,
-                block: Block { start: 0, k: 64 },
+                start: 0,
+                k: 64,
             });
         }
         let place = dice.between(0, self.lines.len() - 1);
@@ -142,7 +137,7 @@ impl Layout {
         self.ports = ports;
         self.marks &= low_bits(u32::from(ports)) as u8;
         for line in &mut self.lines {
-            line.port = line.port.min(ports.saturating_sub(1));
+            line.port = line.port.min(ports.saturating_sub(1).into());
         }
     }
 
@@ -157,7 +152,7 @@ impl Layout {
         let last = *self.lines.last()?;
         let any = dice.pick(&self.lines);
         let line = dice.pick(&[last, any]);
-        let parts = Parts::with_event(dice, world, 0x05B4, line.block.start);
+        let parts = Parts::with_event(dice, world, 0x05B4, line.start);
         Some(Arrival {
             port: dice.below(u64::from(self.ports)) as u8,
             bytes: parts.bytes(),
@@ -166,39 +161,39 @@ impl Layout {
 
     /// The state for the proved side, any numbers standing in the places past the lines.
     pub fn for_proved(&self, dice: &mut Dice) -> Gateway {
-        let mut lines = [0; PLACES].map(|_| any_numbers(dice));
-        for (place, line) in self.lines.iter().take(PLACES).enumerate() {
-            lines[place] = *line;
+        let mut gateway = Gateway {
+            head: self.head(),
+            nodes: [0; PLACES],
+            starts: [0; PLACES],
+            ports: [0; PLACES],
+            sizes: [0; PLACES],
+        };
+        for place in 0..PLACES {
+            let past = any_numbers(dice);
+            gateway.set_line(place, self.lines.get(place).unwrap_or(&past));
         }
-        Gateway {
+        gateway
+    }
+
+    /// The state but for its lines, for the proved side.
+    fn head(&self) -> Head {
+        let (start, k) = self.automatic;
+        Head {
             ports: self.ports,
-            automatic: self.automatic,
             marks: self.marks,
-            table: Table {
-                lines,
-                count: self.lines.len() + self.told,
-            },
+            automatic: Block { start, k: k as u8 },
+            count: self.lines.len() + self.told,
         }
     }
 
     /// The state for the reference.
     pub fn for_reference(&self) -> gateway::Gateway {
         gateway::Gateway {
-            ports: u32::from(self.ports),
-            automatic: (self.automatic.start, u32::from(self.automatic.k)),
-            lines: self.lines.iter().map(reference_line).collect(),
+            ports: self.ports.into(),
+            automatic: self.automatic,
+            lines: self.lines.clone(),
             open: ports_in(self.marks),
         }
-    }
-}
-
-/// A line as the reference has it.
-fn reference_line(line: &Line) -> gateway::Line {
-    gateway::Line {
-        port: u32::from(line.port),
-        node: line.node,
-        start: line.block.start,
-        k: u32::from(line.block.k),
     }
 }
 

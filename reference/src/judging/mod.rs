@@ -7,6 +7,7 @@ mod command;
 mod counts;
 mod histories;
 mod laid_out;
+mod lengths;
 mod messages;
 mod observed;
 mod output;

@@ -2,7 +2,7 @@
 
 use reference::gateway::Gateway;
 use reference::proved;
-use reference::trial::{trial_text, BAD_FILE, HOUSE_NUMBER, MOST_BYTES, MOST_ENTRIES, PORTS};
+use reference::trial::{self, trial_text, BAD_FILE, HOUSE_NUMBER, MOST_BYTES, MOST_ENTRIES, PORTS};
 
 use super::histories::{any_history, long_history, Arrival};
 use super::observed;
@@ -70,15 +70,9 @@ fn arrivals_of(file: &[u8]) -> Vec<Arrival> {
 
 /// The file of these entries.
 fn file_of(arrivals: &[Arrival]) -> Vec<u8> {
-    let mut file = (arrivals.len() as u16).to_be_bytes().to_vec();
-    for arrival in arrivals {
-        file.push(arrival.port);
-        file.extend((arrival.bytes.len() as u16).to_be_bytes());
-    }
-    for arrival in arrivals {
-        file.extend(&arrival.bytes);
-    }
-    file
+    let entry = |arrival: &Arrival| (arrival.port, arrival.bytes.clone());
+    let entries: Vec<_> = arrivals.iter().map(entry).collect();
+    trial::file_of(&entries)
 }
 
 /// A file: mostly a history, else at a limit, damaged, or next to nothing.

@@ -137,7 +137,7 @@ fn compare_trials(dice: &mut Dice) {
     for _ in 0..dice.pick(&[0, 1, 100, 1_000, 1_001]) {
         entries.push((dice.below(5) as u8, any_bytes(dice, 300)));
     }
-    let mut file = trial_file(&entries);
+    let mut file = trial::file_of(&entries);
     if dice.one_in(8) {
         file.pop();
     }
@@ -146,19 +146,6 @@ fn compare_trials(dice: &mut Dice) {
     let room = dice.pick(&[0, 8, 1_000, 20_000]);
     let took = quick::trial_text(&file, &mut text[..room], true);
     assert_eq!(text[..took], slow[..room.min(slow.len())]);
-}
-
-/// The trial file of these entries.
-pub fn trial_file(entries: &[(u8, Vec<u8>)]) -> Vec<u8> {
-    let mut file = (entries.len() as u16).to_be_bytes().to_vec();
-    for (port, body) in entries {
-        file.push(*port);
-        file.extend((body.len() as u16).to_be_bytes());
-    }
-    for (_, body) in entries {
-        file.extend(body);
-    }
-    file
 }
 
 /// A message's bytes, one in eight of them cut or lengthened.

@@ -1,24 +1,24 @@
-//! What is measured: each row is one piece of work, done by the proved call and by the quick one on the same input.
+//! What is measured: each row is one piece of work, done by the proved calls and by the quick one on the same input.
 
 use std::hint::black_box;
 
 use reference::message::Message;
 use reference::proved;
-use reference::trial::HOUSE_NUMBER;
+use reference::trial::{self, HOUSE_NUMBER};
 
-use crate::agree::trial_file;
 use crate::dice::Dice;
 use crate::quick::{self, Line};
 
-pub const COLUMNS: [&str; 3] = ["proved", "checked", "unchecked"];
+/// A box's proved column is the call in place.
+pub const COLUMNS: [&str; 4] = ["proved", "by value", "checked", "unchecked"];
 
 /// Makes the call so many times.
 pub type Call = Box<dyn FnMut(u64)>;
 
 pub struct Row {
     pub name: &'static str,
-    /// In the order of `COLUMNS`; where there is no state, nothing can be left unchecked.
-    pub calls: [Option<Call>; 3],
+    /// In the order of `COLUMNS`; where no state is passed, nothing goes by value, and where there is none, nothing can be left unchecked.
+    pub calls: [Option<Call>; COLUMNS.len()],
 }
 
 const NODE: u64 = 0x0A00_0000_0001;
@@ -60,6 +60,7 @@ fn copy_row() -> Row {
         name: "copy",
         calls: [
             Some(repeat(move || *black_box(&proved))),
+            None,
             Some(repeat(move || *black_box(&quick))),
             None,
         ],
@@ -139,7 +140,7 @@ fn restart(source: u64) -> Vec<u8> {
     bytes
 }
 
-/// A message that leaves the state as it was, so the quick calls go on with the same one.
+/// A message that leaves the state as it was, so the calls go on with the same one.
 fn unchanging(
     name: &'static str,
     start: quick::Gateway,
@@ -147,21 +148,9 @@ fn unchanging(
     bytes: Vec<u8>,
     sent: u8,
 ) -> Row {
-    let after = answer_of_both(&start, port, &bytes, sent);
+    let after = agreed_state(&start, port, &bytes, sent);
     assert_eq!(after.lines(), start.lines());
-    let in_place = |check| {
-        let (mut gateway, bytes) = (start, bytes.clone());
-        repeat(move || black_box(&mut gateway).receive(port, black_box(&bytes), check))
-    };
-    let (checked, unchecked) = (in_place(true), in_place(false));
-    Row {
-        name,
-        calls: [
-            Some(proved_call(&start, port, bytes)),
-            Some(checked),
-            Some(unchecked),
-        ],
-    }
+    box_row(name, &start, port, &bytes, false)
 }
 
 /// A message that changes the state: every call takes a fresh copy, which counts.
@@ -172,82 +161,91 @@ fn changing(
     bytes: Vec<u8>,
     count: usize,
 ) -> Row {
-    let after = answer_of_both(&start, port, &bytes, 0b1101);
+    let after = agreed_state(&start, port, &bytes, 0b1101);
     assert_eq!(after.count, count);
-    let on_a_copy = |check| {
-        let bytes = bytes.clone();
-        repeat(move || {
-            let mut fresh = *black_box(&start);
-            let answer = black_box(&mut fresh).receive(port, black_box(&bytes), check);
-            black_box(&fresh);
-            answer
+    box_row(name, &start, port, &bytes, true)
+}
+
+/// By value the state is copied in every row, so the call's own copy is the fresh one.
+fn box_row(name: &'static str, start: &quick::Gateway, port: u8, bytes: &[u8], fresh: bool) -> Row {
+    let proved = as_proved(start);
+    let (lent, passed) = (bytes.to_vec(), bytes.to_vec());
+    let quick = |check| {
+        let bytes = bytes.to_vec();
+        repeat_on(*start, fresh, move |gateway| {
+            gateway.receive(port, black_box(&bytes), check)
         })
     };
-    let (checked, unchecked) = (on_a_copy(true), on_a_copy(false));
     Row {
         name,
         calls: [
-            Some(proved_call(&start, port, bytes)),
-            Some(checked),
-            Some(unchecked),
+            Some(repeat_on(proved, fresh, move |gateway| {
+                proved::receive_lent(gateway, port, black_box(&lent))
+            })),
+            Some(repeat(move || {
+                proved::receive(black_box(&proved), port, black_box(&passed))
+            })),
+            Some(quick(true)),
+            Some(quick(false)),
         ],
     }
 }
 
-/// By value, as the call wants it: the copy is its own in every row.
-fn proved_call(start: &quick::Gateway, port: u8, bytes: Vec<u8>) -> Call {
-    let gateway = as_proved(start);
-    repeat(move || proved::receive(black_box(&gateway), port, black_box(&bytes)))
+/// Calls in place on one state, or each on a fresh copy of it.
+fn repeat_on<State: Copy + 'static>(
+    mut state: State,
+    fresh: bool,
+    call: impl Fn(&mut State) -> (u8, u8) + 'static,
+) -> Call {
+    if !fresh {
+        return repeat(move || call(black_box(&mut state)));
+    }
+    repeat(move || {
+        let mut copy = *black_box(&state);
+        let answer = call(black_box(&mut copy));
+        black_box(&copy);
+        answer
+    })
 }
 
-/// The state afterwards, once all three ways have given the same answer.
-fn answer_of_both(start: &quick::Gateway, port: u8, bytes: &[u8], sent: u8) -> quick::Gateway {
-    let mut checked = *start;
-    let mut unchecked = *start;
-    assert_eq!(checked.receive(port, bytes, true), (0, sent));
-    assert_eq!(unchecked.receive(port, bytes, false), (0, sent));
-    let answer = proved::receive(&as_proved(start), port, bytes);
-    assert_eq!((answer.refusal, answer.sent), (0, sent));
-    for after in [as_proved(&checked), as_proved(&unchecked)] {
-        assert!(same_state(&after, &answer.gateway));
+/// The state afterwards, once all four columns have given the same answer.
+fn agreed_state(start: &quick::Gateway, port: u8, bytes: &[u8], sent: u8) -> quick::Gateway {
+    let (mut checked, mut unchecked, mut in_place) = (*start, *start, as_proved(start));
+    let by_value = proved::receive(&in_place, port, bytes);
+    for answer in [
+        proved::receive_lent(&mut in_place, port, bytes),
+        (by_value.refusal, by_value.sent),
+        checked.receive(port, bytes, true),
+        unchecked.receive(port, bytes, false),
+    ] {
+        assert_eq!(answer, (0, sent));
+    }
+    let expected = as_proved(&checked);
+    for after in [in_place, by_value.gateway, as_proved(&unchecked)] {
+        assert_eq!(after.head, expected.head);
+        assert_eq!(after.lines(), expected.lines());
     }
     checked
 }
 
 fn as_proved(quick: &quick::Gateway) -> proved::Gateway {
+    let (start, k) = quick.automatic;
     proved::Gateway {
-        ports: quick.ports,
-        automatic: proved_block(quick.automatic),
-        marks: quick.marks,
-        table: proved::Table {
-            lines: quick.lines.map(proved_line),
+        head: proved::Head {
+            ports: quick.ports,
+            marks: quick.marks,
+            automatic: proved::Block { start, k },
             count: quick.count,
         },
+        nodes: quick.lines.map(|line| line.node),
+        starts: quick.lines.map(|line| line.start),
+        ports: quick.lines.map(|line| line.port),
+        sizes: quick.lines.map(|line| line.k),
     }
-}
-
-fn proved_block((start, k): (u64, u8)) -> proved::Block {
-    proved::Block { start, k }
-}
-
-fn proved_line(line: Line) -> proved::Line {
-    proved::Line {
-        port: line.port,
-        node: line.node,
-        block: proved_block((line.start, line.k)),
-    }
-}
-
-/// Lines past the count are no part of the state.
-fn same_state(one: &proved::Gateway, other: &proved::Gateway) -> bool {
-    let count = one.table.count;
-    (one.ports, one.automatic, one.marks, count)
-        == (other.ports, other.automatic, other.marks, other.table.count)
-        && one.table.lines[..count] == other.table.lines[..count]
 }
 
 fn trial_row() -> Row {
-    let file = trial_file(&trial_entries());
+    let file = trial::file_of(&trial_entries());
     let mut text = vec![0; 65_536];
     let took = proved::trial_text(&file, &mut text);
     for check in [true, false] {
@@ -266,6 +264,7 @@ fn trial_row() -> Row {
             Some(repeat(move || {
                 proved::trial_text(black_box(&file), black_box(&mut text))
             })),
+            None,
             Some(checked),
             Some(unchecked),
         ],
@@ -316,6 +315,7 @@ fn reading_row(name: &'static str, bytes: Vec<u8>) -> Row {
         name,
         calls: [
             Some(repeat(move || proved::read(black_box(&bytes)))),
+            None,
             Some(repeat(move || {
                 black_box(&quick::read(black_box(&same_bytes)));
             })),
@@ -354,6 +354,7 @@ fn writing_row(name: &'static str, message: Message, content: &'static [u8]) -> 
             Some(repeat(move || {
                 proved::write(*black_box(&fields), black_box(content), black_box(&mut out))
             })),
+            None,
             Some(repeat(move || {
                 quick::write(
                     black_box(&message),
