@@ -17,7 +17,8 @@ static hrislanoth_lent_answer in_place(uint8_t port, const uint8_t *bytes, size_
 {
     hrislanoth_lent_answer answer =
         hrislanoth_receive_lent(box.head, box.nodes, 256, box.starts, 256, box.ports, 256, box.sizes, 256, port, bytes, length);
-    box.head = answer.head;
+    box.head.marks = answer.marks;
+    box.head.count = answer.count;
     return answer;
 }
 

@@ -96,11 +96,12 @@ typedef struct {
     hrislanoth_gateway gateway;
 } hrislanoth_answer;
 
-/* The same where a box's lists are lent: its lines afterwards stand in those. */
+/* The same where a box's lists are lent: its lines afterwards stand in those. Of its head, only the open marks and the line count can change. */
 typedef struct {
     uint8_t refusal;
     uint8_t sent;
-    hrislanoth_head head;
+    uint8_t marks;
+    size_t count;
 } hrislanoth_lent_answer;
 
 /* A box with no lines and no open marks. 8 where ports is not 2 to 8: the box then has 0 ports. */
@@ -110,7 +111,8 @@ hrislanoth_answer hrislanoth_start(uint8_t ports, uint64_t automatic);
 hrislanoth_answer hrislanoth_receive(hrislanoth_gateway gateway, uint8_t port, const uint8_t *bytes, size_t length);
 
 /* The same in place, on the four lists of a box: 7 before all else where a list is not exactly 256 long, otherwise what hrislanoth_receive answers.
- * The lines change in the caller's lists; the rest of the box afterwards is the answer's head. A refusal changes nothing in any list. */
+ * The lines change in the caller's lists; the head's marks and count afterwards are the answer's. A refusal changes nothing in any list, and its
+ * marks and count are the head's. */
 hrislanoth_lent_answer hrislanoth_receive_lent(hrislanoth_head head, uint64_t *nodes, size_t nodes_length, uint64_t *starts, size_t starts_length,
                                                uint8_t *ports, size_t ports_length, uint8_t *sizes, size_t sizes_length, uint8_t port,
                                                const uint8_t *bytes, size_t length);

@@ -104,7 +104,8 @@ pub struct Answer {
 pub struct LentAnswer {
     pub refusal: u8,
     pub sent: u8,
-    pub head: Head,
+    pub marks: u8,
+    pub count: usize,
 }
 
 /// A box's lists, lent for one call; only 256 places each are taken.
@@ -211,7 +212,8 @@ pub fn receive_lent(gateway: &mut Gateway, port: u8, bytes: &[u8]) -> (u8, u8) {
         sizes: &mut gateway.sizes,
     };
     let answer = receive_lists(gateway.head, lists, port, bytes);
-    gateway.head = answer.head;
+    gateway.head.marks = answer.marks;
+    gateway.head.count = answer.count;
     (answer.refusal, answer.sent)
 }
 

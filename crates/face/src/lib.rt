@@ -150,7 +150,7 @@ pub extern "C" fn hrislanoth_receive_lent(
     port: u8,
     bytes: &[u8],
 ) -> LentAnswer
-    ensures { λ a. ⌜ seenLent a (lists (now (nodes .exit)) (now (starts .exit)) (now (ports .exit)) (now (sizes .exit))) ≡ seenOf (lentStep head (lists (now (nodes .entry)) (now (starts .entry)) (now (ports .entry)) (now (sizes .entry))) port (now (bytes .entry))) ⌝ }
+    ensures { λ a. ⌜ seenLent head a (lists (now (nodes .exit)) (now (starts .exit)) (now (ports .exit)) (now (sizes .exit))) ≡ seenOf (lentStep head (lists (now (nodes .entry)) (now (starts .entry)) (now (ports .entry)) (now (sizes .entry))) port (now (bytes .entry))) ⌝ }
     ensures { λ a. ⌜ lentRefusalKeeps head (lists (now (nodes .entry)) (now (starts .entry)) (now (ports .entry)) (now (sizes .entry))) a (lists (now (nodes .exit)) (now (starts .exit)) (now (ports .exit)) (now (sizes .exit))) ⌝ }
 {
     gateway::receive_lent(head, nodes, starts, ports, sizes, port, bytes)

@@ -12,11 +12,13 @@ use Rattle.gateway_rules.specs.declared.Head.{Head}
 use Rattle.gateway_rules.specs.State.{Lists, gateIn}
 use Rattle.gateway_rules.specs.Step.{Outcome, refusing, step}
 use Rattle.gateway.specs.declared.LentAnswer.{LentAnswer}
-use Rattle.gateway.specs.Answers.{Whole, seenLent, seenOf, badLengths, lentStep}
+use Rattle.gateway.specs.Answers.{Whole, headWith, seenLent, seenOf, badLengths, lentStep}
 
 -- What a refusal says.
-pub refusal-told : (head : Head) (t : Lists) (r : LentAnswer) (n : ℕ) → (r .refusal ≡ n) × (r .sent ≡ 0) × (r .head ≡ head) → seenLent r t ≡ seenOf (refusing (gateIn head t) n)
-refusal-told head t r n (number, nowhere, same) = λ i. record { refusal = number i; sent = (nowhere ∙ sym (nobody 8)) i; gate = gateIn (same i) t }
+pub refusal-told : (head : Head) (t : Lists) (r : LentAnswer) (n : ℕ) → (r .refusal ≡ n) × (r .sent ≡ 0) × (r .marks ≡ head .marks) × (r .count ≡ head .count)
+    → seenLent head r t ≡ seenOf (refusing (gateIn head t) n)
+refusal-told head t r n (number, nowhere, marks, count) =
+    λ i. record { refusal = number i; sent = (nowhere ∙ sym (nobody 8)) i; gate = gateIn (headWith head (marks i) (count i)) t }
 
 abbrev pub bad : Lists → Bool
 bad t = badLengths (length (t .nodes)) (length (t .starts)) (length (t .ports)) (length (t .sizes))

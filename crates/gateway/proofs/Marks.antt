@@ -14,7 +14,7 @@ use Rattle.gateway_rules.specs.declared.Head.{Head}
 use Rattle.gateway_rules.specs.State.{Lists, gateIn, lineAt}
 use Rattle.gateway_rules.specs.Step.{has, withLines, announce}
 use Rattle.sets.proofs.Sets.{set-below, member-of-set}
-use Rattle.gateway.specs.Answers.{Whole, linesIn, putAt}
+use Rattle.gateway.specs.Answers.{Whole, headWith, linesIn, putAt}
 use Rattle.gateway.proofs.Places.{put-last}
 use Rattle.gateway_rules.proofs.Lists.{count-places}
 
@@ -47,6 +47,11 @@ one-more-mark marks q m l p = go (leb 8 p) refl
         no-bit-past p (setOf 8 put) far (set-below 8 put) ∙ sym (ap₂ (λ (s t : Bool). s || t) (ne-eqb p q (λ z. omega (arith, z, l, far))) (no-bit-past p marks far m))
     go false e = member-of-set 8 put p (leb-false 8 p e) ∙ or-comm (inSet marks p) (eqb q p) ∙ ap (λ (t : Bool). t || inSet marks p) (eqb-turned q p)
 
+-- ---- nothing changed
+
+pub left-alone : (head : Head) (t : Lists) (marks count : ℕ) → (marks ≡ head .marks) × (count ≡ head .count) → gateIn (headWith head marks count) t ≡ gateIn head t
+left-alone head t marks count (m, n) = λ i. gateIn (headWith head (m i) (n i)) t
+
 -- ---- the three cases
 
 module _ (head : Head) (t : Lists) (l : Line) where
@@ -55,7 +60,7 @@ module _ (head : Head) (t : Lists) (l : Line) where
   known-line y = rw y
 
   pub added-line : (after : Lists) → Whole t → has (linesIn (head .count) t) l ≡ false → head .count < 256 → after ≡ putAt (head .count) l t
-      → gateIn (record { ports = head .ports; marks = head .marks; automatic = head .automatic; count = head .count + 1 }) after ≡ announce (gateIn head t) l
+      → gateIn (headWith head (head .marks) (head .count + 1)) after ≡ announce (gateIn head t) l
   unfolding announce gateIn
   added-line after w n f e =
       let room : ltb (length (linesIn (head .count) t)) 256 ≡ true = ap (λ (k : ℕ). ltb k 256) (count-places (head .count) (lineAt t)) ∙ lt-ltb (head .count) 256 f in
@@ -64,7 +69,7 @@ module _ (head : Head) (t : Lists) (l : Line) where
 
   pub opened-port : (marks : ℕ) → has (linesIn (head .count) t) l ≡ false → 256 ≤ head .count → head .marks < 256 → l .port < 8
       → marks ≡ setOf 8 (λ p. inSet (head .marks) p || eqb (l .port) p)
-      → gateIn (record { ports = head .ports; marks = marks; automatic = head .automatic; count = head .count }) t ≡ announce (gateIn head t) l
+      → gateIn (headWith head marks (head .count)) t ≡ announce (gateIn head t) l
   unfolding announce gateIn
   opened-port marks n f m q e =
       let room : ltb (length (linesIn (head .count) t)) 256 ≡ false = ap (λ (k : ℕ). ltb k 256) (count-places (head .count) (lineAt t)) ∙ le-ltb (head .count) 256 f in

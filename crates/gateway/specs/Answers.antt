@@ -42,8 +42,12 @@ refusalKeeps g a = (a .refusal ≡ 0 → ⊥) → a .gateway ≡ g
 
 -- ---- the same on lent lists
 
-abbrev pub seenLent : LentAnswer → Lists → Seen
-seenLent a t = record { refusal = a .refusal; sent = a .sent; gate = gateIn (a .head) t }
+-- The head with other open marks and another line count: the rest of it never changes.
+abbrev pub headWith : Head → ℕ → ℕ → Head
+headWith h marks count = record { ports = h .ports; marks = marks; automatic = h .automatic; count = count }
+
+abbrev pub seenLent : Head → LentAnswer → Lists → Seen
+seenLent h a t = record { refusal = a .refusal; sent = a .sent; gate = gateIn (headWith h (a .marks) (a .count)) t }
 
 abbrev pub badLengths : ℕ → ℕ → ℕ → ℕ → Bool
 badLengths nodes starts ports sizes = not (eqb nodes full) || (not (eqb starts full) || (not (eqb ports full) || not (eqb sizes full)))
@@ -54,7 +58,7 @@ lentStep h t q bytes =
     cond (badLengths (length (t .nodes)) (length (t .starts)) (length (t .ports)) (length (t .sizes))) (refusing (gateIn h t) 7) (step (gateIn h t) q bytes)
 
 abbrev pub lentRefusalKeeps : Head → Lists → LentAnswer → Lists → Type 0
-lentRefusalKeeps h before a after = (a .refusal ≡ 0 → ⊥) → (a .head ≡ h) × (after ≡ before)
+lentRefusalKeeps h before a after = (a .refusal ≡ 0 → ⊥) → (a .marks ≡ h .marks) × (a .count ≡ h .count) × (after ≡ before)
 
 -- ---- what the parts of the code work on
 

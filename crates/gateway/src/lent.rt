@@ -20,7 +20,7 @@ pub fn receive_lent(
     port: u8,
     bytes: &[u8],
 ) -> LentAnswer
-    ensures { λ a. ⌜ seenLent a (lists (now (nodes .exit)) (now (starts .exit)) (now (ports .exit)) (now (sizes .exit))) ≡ seenOf (lentStep head (lists (now (nodes .entry)) (now (starts .entry)) (now (ports .entry)) (now (sizes .entry))) port (now (bytes .entry))) ⌝ }
+    ensures { λ a. ⌜ seenLent head a (lists (now (nodes .exit)) (now (starts .exit)) (now (ports .exit)) (now (sizes .exit))) ≡ seenOf (lentStep head (lists (now (nodes .entry)) (now (starts .entry)) (now (ports .entry)) (now (sizes .entry))) port (now (bytes .entry))) ⌝ }
     ensures { λ a. ⌜ lentRefusalKeeps head (lists (now (nodes .entry)) (now (starts .entry)) (now (ports .entry)) (now (sizes .entry))) a (lists (now (nodes .exit)) (now (starts .exit)) (now (ports .exit)) (now (sizes .exit))) ⌝ }
 {
     if bad_lengths(nodes.len(), starts.len(), ports.len(), sizes.len()) {
@@ -40,10 +40,13 @@ pub fn receive_lent(
     let Reading::Read(m) = reading else {
         return refused(head, number_in(reading));
     };
+    let sent = port_sets::others(passed.wanted, head.ports, port);
+    let left = step::taken(head, nodes, starts, ports, sizes, port, m);
     LentAnswer {
         refusal: 0,
-        sent: port_sets::others(passed.wanted, head.ports, port),
-        head: step::taken(head, nodes, starts, ports, sizes, port, m),
+        sent,
+        marks: left.marks,
+        count: left.count,
     }
 }
 
@@ -64,12 +67,13 @@ fn bad_lengths(nodes: usize, starts: usize, ports: usize, sizes: usize) -> bool
 
 // Sent nowhere, with the state as it was.
 fn refused(head: Head, number: u8) -> LentAnswer
-    ensures { λ a. ⌜ (a .refusal ≡ number) × (a .sent ≡ 0) × (a .head ≡ head) ⌝ }
+    ensures { λ a. ⌜ (a .refusal ≡ number) × (a .sent ≡ 0) × (a .marks ≡ head .marks) × (a .count ≡ head .count) ⌝ }
 {
     LentAnswer {
         refusal: number,
         sent: 0,
-        head,
+        marks: head.marks,
+        count: head.count,
     }
 }
 

@@ -22,12 +22,13 @@ pub struct Answer {
     pub gateway: Gateway,
 }
 
-// The same where the lines stand in lent lists.
+// The same where the lines stand in lent lists: the open marks and the line count are what else can change.
 #[repr(C)]
 pub struct LentAnswer {
     pub refusal: u8,
     pub sent: u8,
-    pub head: Head,
+    pub marks: u8,
+    pub count: usize,
 }
 
 // A gateway without lines and open marks, with the block of the number given.
@@ -71,6 +72,7 @@ pub fn receive(gateway: Gateway, port: u8, bytes: &[u8]) -> Answer
     ensures { λ a. ⌜ refusalKeeps gateway a ⌝ }
 {
     let head = gateway.head;
+    let automatic = head.automatic;
     let mut nodes = gateway.nodes;
     let mut starts = gateway.starts;
     let mut ports = gateway.ports;
@@ -84,12 +86,16 @@ pub fn receive(gateway: Gateway, port: u8, bytes: &[u8]) -> Answer
         port,
         bytes,
     );
-    let after = a.head;
     Answer {
         refusal: a.refusal,
         sent: a.sent,
         gateway: Gateway {
-            head: after,
+            head: Head {
+                ports: head.ports,
+                marks: a.marks,
+                automatic,
+                count: a.count,
+            },
             nodes,
             starts,
             ports,

@@ -4,7 +4,7 @@ ghost use mathlib.Core.Bool.{false};
 ghost use Prim.Native.Nat.{_<_};
 ghost use Rattle.gateway_rules.specs.State.{gateIn, lists, outOfBounds};
 ghost use Rattle.gateway_rules.specs.Step.{announce as announceTo, hear as hearAt, restart as restartOf, taken as takenBy};
-ghost use Rattle.gateway.specs.Answers.{Whole, sortOf};
+ghost use Rattle.gateway.specs.Answers.{Whole, headWith, sortOf};
 use crate::lines;
 use crate::port_sets;
 use gateway_rules::Head;
@@ -12,6 +12,12 @@ use gateway_rules::Line;
 use message::Announcement;
 use message::Kind;
 use message::Message;
+
+// What is left of the head: the rest of it never changes.
+pub(crate) struct Left {
+    pub(crate) marks: u8,
+    pub(crate) count: usize,
+}
 
 // The state after it. A report changes nothing, so its way is the short one.
 pub(crate) fn taken(
@@ -22,17 +28,17 @@ pub(crate) fn taken(
     sizes: &mut [u8],
     port: u8,
     m: Message,
-) -> Head
+) -> Left
     requires { ⌜ Whole (lists (now nodes) (now starts) (now ports) (now sizes)) ⌝ }
     requires { ⌜ outOfBounds (gateIn head (lists (now nodes) (now starts) (now ports) (now sizes))) ≡ false ⌝ }
     requires { ⌜ port < head .ports ⌝ }
-    ensures { λ h. ⌜ gateIn h (lists (now (nodes .exit)) (now (starts .exit)) (now (ports .exit)) (now (sizes .exit))) ≡ takenBy (gateIn head (lists (now (nodes .entry)) (now (starts .entry)) (now (ports .entry)) (now (sizes .entry)))) port m ⌝ }
+    ensures { λ r. ⌜ gateIn (headWith head (r .marks) (r .count)) (lists (now (nodes .exit)) (now (starts .exit)) (now (ports .exit)) (now (sizes .exit))) ≡ takenBy (gateIn head (lists (now (nodes .entry)) (now (starts .entry)) (now (ports .entry)) (now (sizes .entry)))) port m ⌝ }
 {
     let meaning = message::meaning_of(m.mti);
     let kind = meaning.kind;
     let sort = sort_of(kind);
     if sort == 1 {
-        return head;
+        return unchanged(head);
     }
     if sort == 2 {
         return restart(head, nodes, starts, ports, sizes, port, m.source);
@@ -77,18 +83,14 @@ fn restart(
     sizes: &mut [u8],
     port: u8,
     node: u64,
-) -> Head
+) -> Left
     requires { ⌜ Whole (lists (now nodes) (now starts) (now ports) (now sizes)) ⌝ }
     requires { ⌜ outOfBounds (gateIn head (lists (now nodes) (now starts) (now ports) (now sizes))) ≡ false ⌝ }
-    ensures { λ h. ⌜ gateIn h (lists (now (nodes .exit)) (now (starts .exit)) (now (ports .exit)) (now (sizes .exit))) ≡ restartOf (gateIn head (lists (now (nodes .entry)) (now (starts .entry)) (now (ports .entry)) (now (sizes .entry)))) port node ⌝ }
+    ensures { λ r. ⌜ gateIn (headWith head (r .marks) (r .count)) (lists (now (nodes .exit)) (now (starts .exit)) (now (ports .exit)) (now (sizes .exit))) ≡ restartOf (gateIn head (lists (now (nodes .entry)) (now (starts .entry)) (now (ports .entry)) (now (sizes .entry)))) port node ⌝ }
 {
-    let automatic = head.automatic;
-    Head {
-        ports: head.ports,
-        marks: head.marks,
-        automatic,
-        count: lines::without_owned(head.count, nodes, starts, ports, sizes, port, node),
-    }
+    let marks = head.marks;
+    let count = lines::without_owned(head.count, nodes, starts, ports, sizes, port, node);
+    Left { marks, count }
 }
 
 fn hear(
@@ -100,14 +102,14 @@ fn hear(
     port: u8,
     node: u64,
     announcement: Announcement,
-) -> Head
+) -> Left
     requires { ⌜ Whole (lists (now nodes) (now starts) (now ports) (now sizes)) ⌝ }
     requires { ⌜ outOfBounds (gateIn head (lists (now nodes) (now starts) (now ports) (now sizes))) ≡ false ⌝ }
     requires { ⌜ port < head .ports ⌝ }
-    ensures { λ h. ⌜ gateIn h (lists (now (nodes .exit)) (now (starts .exit)) (now (ports .exit)) (now (sizes .exit))) ≡ hearAt (gateIn head (lists (now (nodes .entry)) (now (starts .entry)) (now (ports .entry)) (now (sizes .entry)))) port node announcement ⌝ }
+    ensures { λ r. ⌜ gateIn (headWith head (r .marks) (r .count)) (lists (now (nodes .exit)) (now (starts .exit)) (now (ports .exit)) (now (sizes .exit))) ≡ hearAt (gateIn head (lists (now (nodes .entry)) (now (starts .entry)) (now (ports .entry)) (now (sizes .entry)))) port node announcement ⌝ }
 {
     let Announcement::Of(block) = announcement else {
-        return head;
+        return unchanged(head);
     };
     announce(
         head,
@@ -126,32 +128,34 @@ fn announce(
     ports: &mut [u8],
     sizes: &mut [u8],
     l: Line,
-) -> Head
+) -> Left
     requires { ⌜ Whole (lists (now nodes) (now starts) (now ports) (now sizes)) ⌝ }
     requires { ⌜ outOfBounds (gateIn head (lists (now nodes) (now starts) (now ports) (now sizes))) ≡ false ⌝ }
     requires { ⌜ l .port < head .ports ⌝ }
-    ensures { λ h. ⌜ gateIn h (lists (now (nodes .exit)) (now (starts .exit)) (now (ports .exit)) (now (sizes .exit))) ≡ announceTo (gateIn head (lists (now (nodes .entry)) (now (starts .entry)) (now (ports .entry)) (now (sizes .entry)))) l ⌝ }
+    ensures { λ r. ⌜ gateIn (headWith head (r .marks) (r .count)) (lists (now (nodes .exit)) (now (starts .exit)) (now (ports .exit)) (now (sizes .exit))) ≡ announceTo (gateIn head (lists (now (nodes .entry)) (now (starts .entry)) (now (ports .entry)) (now (sizes .entry)))) l ⌝ }
 {
-    let automatic = head.automatic;
-    let marks = head.marks;
     let count = head.count;
     if lines::has(count, nodes, starts, ports, sizes, l) {
-        return head;
+        return unchanged(head);
     }
     if count < 256 {
         lines::put_line(nodes, starts, ports, sizes, count, l);
-        return Head {
-            ports: head.ports,
-            marks,
-            automatic,
+        return Left {
+            marks: head.marks,
             count: count + 1,
         };
     }
-    let marks = port_sets::with_port(marks, l.port);
-    Head {
-        ports: head.ports,
-        marks,
-        automatic,
+    Left {
+        marks: port_sets::with_port(head.marks, l.port),
         count,
+    }
+}
+
+fn unchanged(head: Head) -> Left
+    ensures { λ r. ⌜ (r .marks ≡ head .marks) × (r .count ≡ head .count) ⌝ }
+{
+    Left {
+        marks: head.marks,
+        count: head.count,
     }
 }

@@ -51,5 +51,5 @@ fn lent(label: &[u8], of_nodes: usize, of_starts: usize, of_ports: usize, of_siz
         0,
         &bytes[0..16],
     );
-    told_lent(label, a);
+    told_lent(label, 4, a);
 }

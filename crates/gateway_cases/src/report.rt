@@ -2,7 +2,6 @@
 use gateway::Answer;
 use gateway::LentAnswer;
 use gateway_rules::Gateway;
-use gateway_rules::Head;
 use libc::STDOUT_FILENO;
 
 pub(crate) fn heading(title: &[u8]) {
@@ -14,26 +13,25 @@ pub(crate) fn heading(title: &[u8]) {
 pub(crate) fn told(label: &[u8], a: Answer) -> Gateway {
     let g = a.gateway;
     let head = g.head;
-    said(label, a.refusal, a.sent, head);
+    said(label, a.refusal, a.sent, head.ports, head.marks, head.count);
     g
 }
 
 // The same of a step on lent lists.
-pub(crate) fn told_lent(label: &[u8], a: LentAnswer) {
-    let head = a.head;
-    said(label, a.refusal, a.sent, head);
+pub(crate) fn told_lent(label: &[u8], ports: u8, a: LentAnswer) {
+    said(label, a.refusal, a.sent, ports, a.marks, a.count);
 }
 
-fn said(label: &[u8], refusal: u8, sent: u8, head: Head) {
+fn said(label: &[u8], refusal: u8, sent: u8, ports: u8, marks: u8, count: usize) {
     text(label);
     text(b": ");
     if refusal == 0 {
-        digits(sent, head.ports);
+        digits(sent, ports);
     } else {
         text(b"refused ");
         decimal(refusal as u64);
     }
-    state(head);
+    state(marks, count);
 }
 
 // Of a run of steps that are not printed, only what they left.
@@ -41,14 +39,14 @@ pub(crate) fn left(label: &[u8], g: Gateway) {
     text(label);
     text(b": done");
     let head = g.head;
-    state(head);
+    state(head.marks, head.count);
 }
 
-fn state(head: Head) {
+fn state(marks: u8, count: usize) {
     text(b", ");
-    decimal(head.count as u64);
+    decimal(count as u64);
     text(b" lines, marks ");
-    io::print_hex(STDOUT_FILENO, head.marks as u64, 1);
+    io::print_hex(STDOUT_FILENO, marks as u64, 1);
     text(b"\n");
 }
 

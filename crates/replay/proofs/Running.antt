@@ -11,9 +11,10 @@ use Rattle.text.specs.Text.{filled, endOf}
 use Rattle.text.proofs.Laws.{Remains, remains-next, remains-none}
 use Rattle.gateway_rules.specs.State.{Gate, Lists, lineAt, gateIn, gateOf, startOf}
 use Rattle.gateway_rules.specs.Step.{Outcome, start, step}
+use Rattle.gateway_rules.specs.declared.Head.{Head}
 use Rattle.gateway.specs.declared.Answer.{Answer}
 use Rattle.gateway.specs.declared.LentAnswer.{LentAnswer}
-use Rattle.gateway.specs.Answers.{Seen, seenIn, seenLent, seenOf}
+use Rattle.gateway.specs.Answers.{Seen, seenIn, headWith, seenLent, seenOf}
 use Rattle.gateway_rules.proofs.Lists.{count-places}
 use Rattle.replay.specs.Files.{entryCount, entryAt, portIn, lengthIn, bodyAt}
 use Rattle.replay.specs.Lines.{ports, house, lineOf, lineFor, stepAt, linesFrom}
@@ -31,10 +32,10 @@ module _ (i : ℕ) (g : Gate) (s : List ℕ) where
   lines-next n = refl
 
 -- The line of an answer, with the count that the step leaves.
-line-for : (i : ℕ) (o : Outcome) (a : LentAnswer) (t : Lists) → seenLent a t ≡ seenOf o → lineOf i (a .refusal) (a .sent) (a .head .count) ≡ lineFor i o
+line-for : (i : ℕ) (o : Outcome) (head : Head) (a : LentAnswer) (t : Lists) → seenLent head a t ≡ seenOf o → lineOf i (a .refusal) (a .sent) (a .count) ≡ lineFor i o
 unfolding gateIn
-line-for i o a t e =
-    let count = sym (count-places (a .head .count) (lineAt t)) ∙ ap (λ (x : Seen). length (x .gate .lines)) e in
+line-for i o head a t e =
+    let count = sym (count-places (a .count) (lineAt t)) ∙ ap (λ (x : Seen). length (x .gate .lines)) e in
     λ z. lineOf i (e z .refusal) (e z .sent) (count z)
 
 -- A start with 4 ports is not refused.
@@ -64,23 +65,23 @@ module _ {g₀ : Gate} {file : List ℕ} {first : Place} {text₀ : List ℕ} {i
   running-within good h z = omega (arith, body-within good i h, r .body, z)
 
   -- The entry's line is put in, and the next body stands after its own.
-  pub running-next : (a : LentAnswer) (t : Lists) {next′ : Place} {text′ : List ℕ} {size : ℕ} → i < entryCount file → size ≡ lengthIn file i
-      → seenLent a t ≡ seenOf (step g (portIn file i) (take (at + size - at) (drop at file)))
-      → next′ ≡ endOf next (lineOf i (a .refusal) (a .sent) (a .head .count)) text
-      → text′ ≡ filled next (lineOf i (a .refusal) (a .sent) (a .head .count)) text
-      → Running g₀ file first text₀ (i + 1) (at + size) (gateIn (a .head) t) next′ text′
-  running-next a t h z e e₁ f₁ =
+  pub running-next : (head : Head) (a : LentAnswer) (t : Lists) {next′ : Place} {text′ : List ℕ} {size : ℕ} → i < entryCount file → size ≡ lengthIn file i
+      → seenLent head a t ≡ seenOf (step g (portIn file i) (take (at + size - at) (drop at file)))
+      → next′ ≡ endOf next (lineOf i (a .refusal) (a .sent) (a .count)) text
+      → text′ ≡ filled next (lineOf i (a .refusal) (a .sent) (a .count)) text
+      → Running g₀ file first text₀ (i + 1) (at + size) (gateIn (headWith head (a .marks) (a .count)) t) next′ text′
+  running-next head a t h z e e₁ f₁ =
       let left : entryCount file - i ≡ suc (entryCount file - (i + 1)) = omega (arith, h) in
-      let taken : seenLent a t ≡ seenOf (stepAt g file i) = e ∙ ap (λ (l : List ℕ). seenOf (step g (portIn file i) l)) (body-part file i (r .body) z) in
-      let line = line-for i (stepAt g file i) a t taken in
-      let lines : linesFrom (entryCount file - i) i g file ≡ lineOf i (a .refusal) (a .sent) (a .head .count) ++ linesFrom (entryCount file - (i + 1)) (i + 1) (gateIn (a .head) t) file
+      let taken : seenLent head a t ≡ seenOf (stepAt g file i) = e ∙ ap (λ (l : List ℕ). seenOf (step g (portIn file i) l)) (body-part file i (r .body) z) in
+      let line = line-for i (stepAt g file i) head a t taken in
+      let lines : linesFrom (entryCount file - i) i g file ≡ lineOf i (a .refusal) (a .sent) (a .count) ++ linesFrom (entryCount file - (i + 1)) (i + 1) (gateIn (headWith head (a .marks) (a .count)) t) file
       = ap (λ (n : ℕ). linesFrom n i g file) left
       ∙ lines-next i g file (entryCount file - (i + 1))
       ∙ λ z. sym line z ++ linesFrom (entryCount file - (i + 1)) (sym (add-one i) z) (sym taken z .gate) file in
       record {
         inside = omega (arith, h);
         body = ap₂ _+_ (r .body) z ∙ sym (body-next file i);
-        rest = remains-next (lineOf i (a .refusal) (a .sent) (a .head .count)) (rw lines at (r .rest)) e₁ f₁;
+        rest = remains-next (lineOf i (a .refusal) (a .sent) (a .count)) (rw lines at (r .rest)) e₁ f₁;
       }
 
   pub running-end : entryCount file ≤ i → (next ≡ endOf first (linesFrom (entryCount file) 0 g₀ file) text₀) × (text ≡ filled first (linesFrom (entryCount file) 0 g₀ file) text₀)

@@ -58,8 +58,9 @@ fn from(gateway: Gateway, file: &[u8], first: Place, text: &mut [u8]) -> Place
             port,
             &file[at..end],
         );
-        head = a.head;
-        next = lines::put(i, a.refusal, a.sent, head.count, next, text);
+        head.marks = a.marks;
+        head.count = a.count;
+        next = lines::put(i, a.refusal, a.sent, a.count, next, text);
         at = end;
         i += 1;
     }

@@ -41,7 +41,8 @@ pub fn judge(dice: &mut Dice, witness: &mut Witness, gateway: &Gateway, arrival:
     let expected = LentAnswer {
         refusal: refusal::BOUNDS,
         sent: 0,
-        head: gateway.head,
+        marks: gateway.head.marks,
+        count: gateway.head.count,
     };
     let ours = lists.clone().receive(gateway.head, lengths, arrival);
     let theirs = Answer {

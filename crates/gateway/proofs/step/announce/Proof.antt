@@ -6,15 +6,18 @@ use borrow.Author.Needs.{needs}
 use denote.Ref.{now}
 use Rattle.gateway_rules.specs.State.{lists}
 use Rattle.gateway.proofs.InBounds.{head-good, few-lines, few-ports}
-use Rattle.gateway.proofs.Marks.{known-line, added-line, opened-port}
+use Rattle.gateway.proofs.Marks.{left-alone, known-line, added-line, opened-port}
 use Rattle.gateway.proofs.step.announce.Statement.{statement}
 use Rattle.gateway.proofs.step.announce.Tie as tie
 
 has-requires : tie.Need-has-requires
 has-requires c κs =
-    let a = c .before .before .before .before .before .before .before .before .before .args in
+    let a = c .before .before .before .before .before .before .before .before .args in
     let t = lists (now (a .nodes)) (now (a .starts)) (now (a .ports)) (now (a .sizes)) in
-    (few-lines (a .head) (head-good (a .head) t (c .before .before .before .before .before .before .before .before .before .pre .1 .0)), c .before .before .before .before .before .before .before .before .before .pre .0)
+    (few-lines (a .head) (head-good (a .head) t (c .before .before .before .before .before .before .before .before .pre .1 .0)), c .before .before .before .before .before .before .before .before .pre .0)
+
+unchanged-requires : tie.Need-unchanged-requires
+unchanged-requires c κs = search needs
 
 same-length : tie.Need-same-length
 same-length c = search needs
@@ -32,13 +35,13 @@ returns : tie.Need-returns
 returns c =
     let a = c .before .before .before .before .before .before .before .before .before .before .before .args in
     let t = lists (now (a .nodes)) (now (a .starts)) (now (a .ports)) (now (a .sizes)) in
-    known-line (a .head) t (a .l) (sym (c .before .has .ensures) ∙ c .if1 .taken)
+    left-alone (a .head) t (c .unchanged .result .marks) (c .unchanged .result .count) (c .unchanged .ensures) ∙ known-line (a .head) t (a .l) (sym (c .before .before .has .ensures) ∙ c .before .if1 .taken)
 
 put-line-requires : tie.Need-put-line-requires
 put-line-requires c κs = search needs
 
-add-t30 : tie.Need-add-t30
-add-t30 c = search needs
+add-t27 : tie.Need-add-t27
+add-t27 c = search needs
 
 same-length-5 : tie.Need-same-length-5
 same-length-5 c = search needs
@@ -54,15 +57,15 @@ same-length-8 c = search needs
 
 returns-2 : tie.Need-returns-2
 returns-2 c =
-    let a = c .before .before .before .before .before .before .before .before .before .before .before .before .before .before .before .before .before .before .before .before .before .before .before .before .before .args in
+    let a = c .before .before .before .before .before .before .before .before .before .before .before .before .before .before .before .before .before .before .before .before .before .before .before .before .args in
     let t = lists (now (a .nodes)) (now (a .starts)) (now (a .ports)) (now (a .sizes)) in
-    added-line (a .head) t (a .l) _ (c .before .before .before .before .before .before .before .before .before .before .before .before .before .before .before .before .before .before .before .before .before .before .before .before .before .pre .0) (sym (c .before .before .before .before .before .before .before .before .before .before .before .before .before .before .before .has .ensures) ∙ c .before .before .before .before .before .before .before .before .before .before .before .before .before .before .if1 .left) (c .before .before .before .before .before .before .before .before .before .before .before .before .before .if2 .taken) (c .before .before .before .before .before .before .before .before .put-line .ensures)
+    added-line (a .head) t (a .l) _ (c .before .before .before .before .before .before .before .before .before .before .before .before .before .before .before .before .before .before .before .before .before .before .before .before .pre .0) (sym (c .before .before .before .before .before .before .before .before .before .before .before .before .before .before .before .has .ensures) ∙ c .before .before .before .before .before .before .before .before .before .before .before .before .before .before .if1 .left) (c .before .before .before .before .before .before .before .before .before .before .before .before .before .if2 .taken) (c .before .before .before .before .before .before .before .before .put-line .ensures)
 
 with-port-requires : tie.Need-with-port-requires
 with-port-requires c κs =
-    let a = c .before .before .before .before .before .before .before .before .before .before .before .before .args in
+    let a = c .before .before .before .before .before .before .before .before .before .before .before .args in
     let t = lists (now (a .nodes)) (now (a .starts)) (now (a .ports)) (now (a .sizes)) in
-    le-trans (c .before .before .before .before .before .before .before .before .before .before .before .before .pre .1 .1) (few-ports (a .head) (head-good (a .head) t (c .before .before .before .before .before .before .before .before .before .before .before .before .pre .1 .0)))
+    le-trans (c .before .before .before .before .before .before .before .before .before .before .before .pre .1 .1) (few-ports (a .head) (head-good (a .head) t (c .before .before .before .before .before .before .before .before .before .before .before .pre .1 .0)))
 
 same-length-9 : tie.Need-same-length-9
 same-length-9 c = search needs
@@ -78,9 +81,9 @@ same-length-12 c = search needs
 
 returns-3 : tie.Need-returns-3
 returns-3 c =
-    let a = c .before .before .before .before .before .before .before .before .before .before .before .before .before .args in
+    let a = c .before .before .before .before .before .before .before .before .before .before .before .before .args in
     let t = lists (now (a .nodes)) (now (a .starts)) (now (a .ports)) (now (a .sizes)) in
-    let below = le-trans (c .before .before .before .before .before .before .before .before .before .before .before .before .before .pre .1 .1) (few-ports (a .head) (head-good (a .head) t (c .before .before .before .before .before .before .before .before .before .before .before .before .before .pre .1 .0))) in
+    let below = le-trans (c .before .before .before .before .before .before .before .before .before .before .before .before .pre .1 .1) (few-ports (a .head) (head-good (a .head) t (c .before .before .before .before .before .before .before .before .before .before .before .before .pre .1 .0))) in
     opened-port (a .head) t (a .l) (c .with-port .result) (sym (c .before .before .before .has .ensures) ∙ c .before .before .if1 .left) (c .before .if2 .left) (omega arith) below (c .with-port .ensures)
 
 pub announce-spec : {M : Type 1} → statement M
@@ -88,13 +91,14 @@ announce-spec =
     tie.close
     (tie.spec
     has-requires
+    unchanged-requires
     same-length
     same-length-2
     same-length-3
     same-length-4
     returns
     put-line-requires
-    add-t30
+    add-t27
     same-length-5
     same-length-6
     same-length-7

@@ -4,6 +4,7 @@ use borrow.Author.Needs.{needs}
 use denote.Ref.{now}
 use Rattle.gateway_rules.specs.State.{lists, gateIn}
 use Rattle.gateway_rules.specs.Step.{hear}
+use Rattle.gateway.proofs.Marks.{left-alone}
 use Rattle.gateway.proofs.step.hear.Statement.{statement}
 use Rattle.gateway.proofs.step.hear.Tie as tie
 
@@ -13,11 +14,14 @@ enum-known-announcement c = search needs
 enum-told : tie.Need-enum-told
 enum-told c = search needs
 
+unchanged-requires : tie.Need-unchanged-requires
+unchanged-requires c κs = search needs
+
 returns : tie.Need-returns
 returns c =
-    let a = c .before .before .before .before .before .before .args in
+    let a = c .before .before .before .before .before .before .before .args in
     let t = lists (now (a .nodes)) (now (a .starts)) (now (a .ports)) (now (a .sizes)) in
-    sym (ap (hear (gateIn (a .head) t) (a .port) (a .node)) (c .enum-told .given .1))
+    left-alone (a .head) t (c .unchanged .result .marks) (c .unchanged .result .count) (c .unchanged .ensures) ∙ sym (ap (hear (gateIn (a .head) t) (a .port) (a .node)) (c .before .enum-told .given .1))
 
 announce-requires : tie.Need-announce-requires
 announce-requires c κs = search needs
@@ -46,6 +50,7 @@ hear-spec =
     (tie.spec
     enum-known-announcement
     enum-told
+    unchanged-requires
     returns
     announce-requires
     same-length

@@ -6,21 +6,21 @@ use denote.Ref.{now}
 use Rattle.gateway_rules.specs.declared.Head.{Head}
 use Rattle.gateway_rules.specs.State.{Lists, lists, gateIn}
 use Rattle.gateway_rules.specs.Step.{ownedAt, restart, without}
-use Rattle.gateway.specs.Answers.{linesIn}
+use Rattle.gateway.specs.Answers.{headWith, linesIn}
 use Rattle.gateway.proofs.InBounds.{head-good, few-lines}
 use Rattle.gateway.proofs.step.restart.Statement.{statement}
 use Rattle.gateway.proofs.step.restart.Tie as tie
 
 restarted : (head : Head) (t after : Lists) (count port node : ℕ) → linesIn count after ≡ without (ownedAt port node) (linesIn (head .count) t)
-    → gateIn (record { ports = head .ports; marks = head .marks; automatic = head .automatic; count = count }) after ≡ restart (gateIn head t) port node
+    → gateIn (headWith head (head .marks) count) after ≡ restart (gateIn head t) port node
 unfolding gateIn
 restarted head t after count port node e = λ i. record { ports = head .ports; automatic = head .automatic; lines = e i; marked = gateIn head t .marked }
 
 without-owned-requires : tie.Need-without-owned-requires
 without-owned-requires c κs =
-    let a = c .before .before .before .before .before .before .before .before .before .args in
+    let a = c .before .before .before .before .before .before .before .before .args in
     let t = lists (now (a .nodes)) (now (a .starts)) (now (a .ports)) (now (a .sizes)) in
-    (few-lines (a .head) (head-good (a .head) t (c .before .before .before .before .before .before .before .before .before .pre .1)), c .before .before .before .before .before .before .before .before .before .pre .0)
+    (few-lines (a .head) (head-good (a .head) t (c .before .before .before .before .before .before .before .before .pre .1)), c .before .before .before .before .before .before .before .before .pre .0)
 
 same-length : tie.Need-same-length
 same-length c = search needs
@@ -36,7 +36,7 @@ same-length-4 c = search needs
 
 returns : tie.Need-returns
 returns c =
-    let a = c .before .before .before .before .before .before .before .before .before .before .before .before .before .before .before .before .before .before .args in
+    let a = c .before .before .before .before .before .before .before .before .before .before .before .before .before .before .before .before .before .args in
     let t = lists (now (a .nodes)) (now (a .starts)) (now (a .ports)) (now (a .sizes)) in
     restarted (a .head) t _ (c .before .before .before .before .before .before .before .before .without-owned .result) (a .port) (a .node) (c .before .before .before .before .before .before .before .before .without-owned .ensures)
 

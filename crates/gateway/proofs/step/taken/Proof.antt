@@ -8,6 +8,7 @@ use Rattle.gateway_rules.specs.State.{lists, gateIn}
 use Rattle.gateway_rules.specs.Step.{hear}
 use Rattle.gateway.specs.Answers.{sortOf}
 use Rattle.gateway.proofs.Sends.{report-takes, restart-takes, rest-takes}
+use Rattle.gateway.proofs.Marks.{left-alone}
 use Rattle.gateway.proofs.step.taken.Statement.{statement}
 use Rattle.gateway.proofs.step.taken.Tie as tie
 
@@ -17,12 +18,15 @@ meaning-of-requires c κs = search needs
 sort-of-requires : tie.Need-sort-of-requires
 sort-of-requires c κs = search needs
 
+unchanged-requires : tie.Need-unchanged-requires
+unchanged-requires c κs = search needs
+
 returns : tie.Need-returns
 returns c =
-    let a = c .before .before .before .before .before .before .before .args in
+    let a = c .before .before .before .before .before .before .before .before .args in
     let t = lists (now (a .nodes)) (now (a .starts)) (now (a .ports)) (now (a .sizes)) in
-    let kind = ap (λ (x : Meaning). sortOf (x .kind)) (c .before .before .meaning-of .ensures) in
-    report-takes (gateIn (a .head) t) (a .port) (a .m) (sym (c .before .sort-of .ensures ∙ kind) ∙ c .if1 .taken)
+    let kind = ap (λ (x : Meaning). sortOf (x .kind)) (c .before .before .before .meaning-of .ensures) in
+    left-alone (a .head) t (c .unchanged .result .marks) (c .unchanged .result .count) (c .unchanged .ensures) ∙ report-takes (gateIn (a .head) t) (a .port) (a .m) (sym (c .before .before .sort-of .ensures ∙ kind) ∙ c .before .if1 .taken)
 
 restart-requires : tie.Need-restart-requires
 restart-requires c κs = search needs
@@ -79,6 +83,7 @@ taken-spec =
     (tie.spec
     meaning-of-requires
     sort-of-requires
+    unchanged-requires
     returns
     restart-requires
     same-length

@@ -85,17 +85,17 @@ put-requires : tie.Need-put-requires Inv-loop μ-loop
 put-requires c κs = tt
 
 add-i : tie.Need-add-i Inv-loop μ-loop
-add-i c = omega (arith, good-file (c .before .before .before .before .before .before .before .before .before .before .before .before .before .before .before .before .before .before .before .before .before .before .before .before .before .before .before .args .file .now) (c .before .before .before .before .before .before .before .before .before .before .before .before .before .before .before .before .before .before .before .before .before .before .before .before .before .before .before .pre .0) .count, c .before .before .before .before .before .before .before .before .before .before .before .before .before .before .before .before .before .before .before .number .ensures, c .before .before .before .before .before .before .before .before .before .before .before .before .before .before .before .before .before .loop-test .taken)
+add-i c = omega (arith, good-file (c .before .before .before .before .before .before .before .before .before .before .before .before .before .before .before .before .before .before .before .before .before .before .before .before .before .before .args .file .now) (c .before .before .before .before .before .before .before .before .before .before .before .before .before .before .before .before .before .before .before .before .before .before .before .before .before .before .pre .0) .count, c .before .before .before .before .before .before .before .before .before .before .before .before .before .before .before .before .before .before .number .ensures, c .before .before .before .before .before .before .before .before .before .before .before .before .before .before .before .before .loop-test .taken)
 
 loop-less : tie.Need-loop-less Inv-loop μ-loop
-loop-less c = omega (arith, c .before .before .before .before .before .before .before .before .before .before .before .before .before .before .before .before .before .loop-test .taken)
+loop-less c = omega (arith, c .before .before .before .before .before .before .before .before .before .before .before .before .before .before .before .before .loop-test .taken)
 
 loop-again : tie.Need-loop-again Inv-loop μ-loop
 loop-again c =
-    let l = c .before .before .before .before .before .before .before .before .before .before .before .before .before .before .before .before .before .before .loop in
+    let l = c .before .before .before .before .before .before .before .before .before .before .before .before .before .before .before .before .before .loop in
     let t = lists (l .nodes) (l .starts) (l .ports) (l .sizes) in
     let stepped = ap seenOf (whole-step (l .head) t _ _ (l .inv .1)) in
-    (running-next (l .inv .0) (c .before .before .before .before .before .before .before .before .before .receive-lent .result) _ (omega (arith, c .before .before .before .before .before .before .before .before .before .before .before .before .before .before .before .before .before .before .before .number .ensures, c .before .before .before .before .before .before .before .before .before .before .before .before .before .before .before .before .before .loop-test .taken)) (c .before .before .before .before .before .before .before .before .before .before .before .before .before .before .before .number2 .ensures) (c .before .before .before .before .before .before .before .before .before .receive-lent .ensures .0 ∙ stepped) (c .before .before .put .ensures .0) (c .before .before .put .ensures .1), (c .before .before .before .before .before .before .before .before .nodes3 .given, c .before .before .before .before .before .before .before .starts3 .given, c .before .before .before .before .before .before .ports3 .given, c .before .before .before .before .before .sizes3 .given))
+    (running-next (l .inv .0) (l .head) (c .before .before .before .before .before .before .before .before .receive-lent .result) _ (omega (arith, c .before .before .before .before .before .before .before .before .before .before .before .before .before .before .before .before .before .before .number .ensures, c .before .before .before .before .before .before .before .before .before .before .before .before .before .before .before .before .loop-test .taken)) (c .before .before .before .before .before .before .before .before .before .before .before .before .before .before .number2 .ensures) (c .before .before .before .before .before .before .before .before .receive-lent .ensures .0 ∙ stepped) (c .before .before .put .ensures .0) (c .before .before .put .ensures .1), (c .before .before .before .before .before .before .before .nodes3 .given, c .before .before .before .before .before .before .starts3 .given, c .before .before .before .before .before .ports3 .given, c .before .before .before .before .sizes3 .given))
 
 same-length : tie.Need-same-length Inv-loop μ-loop
 same-length c = remains-length (c .before .loop .inv .0 .rest)
