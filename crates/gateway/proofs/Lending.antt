@@ -1,7 +1,7 @@
 -- A step on lent lists: with 256 places each it is the step of the box.
 use Prim.Native.Nat.{ℕ}
 use mathlib.Core.Path.{_≡_, sym, ap, _∙_}
-use mathlib.Core.Bool.{Bool, true, false, cond, not, _||_}
+use mathlib.Core.Bool.{Bool, false, cond, not, _||_}
 use mathlib.Core.List.{List}
 use borrow.Author.Tests.{eqb-true, not-false}
 use lib.Dec.{eqb}
@@ -23,21 +23,19 @@ refusal-told head t r n (number, nowhere, marks, count) =
 abbrev pub bad : Lists → Bool
 bad t = badLengths (length (t .nodes)) (length (t .starts)) (length (t .ports)) (length (t .sizes))
 
-abbrev by-lengths : Head → Lists → ℕ → List ℕ → Bool → Outcome
+abbrev pub by-lengths : Head → Lists → ℕ → List ℕ → Bool → Outcome
 by-lengths head t q bytes y = cond y (refusing (gateIn head t) 7) (step (gateIn head t) q bytes)
 
 not-bad : (t : Lists) → Whole t → bad t ≡ false
 not-bad t w = rw (w .0, w .1, w .2, w .3)
 
 module _ (head : Head) (t : Lists) (q : ℕ) (bytes : List ℕ) where
-  pub unlike : bad t ≡ true → refusing (gateIn head t) 7 ≡ lentStep head t q bytes
-  unlike e = sym (ap (by-lengths head t q bytes) e)
-
-  pub alike : bad t ≡ false → step (gateIn head t) q bytes ≡ lentStep head t q bytes
-  alike e = sym (ap (by-lengths head t q bytes) e)
+  -- Once the lengths are known to be bad or not.
+  pub by-bad : {y : Bool} → bad t ≡ y → by-lengths head t q bytes y ≡ lentStep head t q bytes
+  by-bad e = sym (ap (by-lengths head t q bytes) e)
 
   pub whole-step : Whole t → lentStep head t q bytes ≡ step (gateIn head t) q bytes
-  whole-step w = sym (alike (not-bad t w))
+  whole-step w = sym (by-bad (not-bad t w))
 
 -- Lists of 256 places each.
 pub all-whole : (t : Lists) → bad t ≡ false → Whole t

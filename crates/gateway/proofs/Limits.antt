@@ -25,8 +25,6 @@ limits head t =
     (count-places (head .count) (lineAt t))
     ∙ lines-last (badPorts (head .ports)) (ltb 256 (head .count)) (any (badAt (head .ports)) (linesIn (head .count) t)) (stray head) (badAutomatic (head .automatic))
 
-pub head-outside : (head : Head) (t : Lists) → badHead head ≡ true → outOfBounds (gateIn head t) ≡ true
-head-outside head t e = limits head t ∙ ap (λ (y : Bool). y || any (badAt (head .ports)) (linesIn (head .count) t)) e
-
-pub by-lines-alone : (head : Head) (t : Lists) → badHead head ≡ false → outOfBounds (gateIn head t) ≡ any (badAt (head .ports)) (linesIn (head .count) t)
-by-lines-alone head t e = limits head t ∙ ap (λ (y : Bool). y || any (badAt (head .ports)) (linesIn (head .count) t)) e
+-- Once the head is known to be out of bounds or not.
+pub by-head : (head : Head) (t : Lists) {y : Bool} → badHead head ≡ y → outOfBounds (gateIn head t) ≡ (y || any (badAt (head .ports)) (linesIn (head .count) t))
+by-head head t e = limits head t ∙ ap (λ (y : Bool). y || any (badAt (head .ports)) (linesIn (head .count) t)) e

@@ -7,9 +7,9 @@ use Rattle.message.specs.declared.Reading.the-variants.{Read, Refused}
 use Rattle.gateway_rules.specs.State.{Gate, lists, gateIn}
 use Rattle.gateway_rules.specs.Step.{refusing}
 use Rattle.gateway.specs.Answers.{Seen, seenOf, numberOf, wantedBy}
-use Rattle.gateway.proofs.Limits.{head-outside}
+use Rattle.gateway.proofs.Limits.{by-head}
 use Rattle.gateway.proofs.Sends.{by-ports, goes-wanted}
-use Rattle.gateway.proofs.Lending.{refusal-told, unlike, alike, all-whole}
+use Rattle.gateway.proofs.Lending.{refusal-told, by-bad, all-whole}
 use Rattle.gateway.proofs.Stepping.{step-at-7, step-at-8, step-at-reading, ports-reached}
 use Rattle.gateway.proofs.lent.receive_lent.Statement.{statement}
 use Rattle.gateway.proofs.lent.receive_lent.Tie as tie
@@ -28,7 +28,7 @@ returns c =
     let a = c .before .before .before .before .before .before .before .before .args in
     let t = lists (now (a .nodes)) (now (a .starts)) (now (a .ports)) (now (a .sizes)) in
     let told = refusal-told (a .head) t (c .refused .result) 7 (c .refused .ensures) in
-    (told ∙ ap seenOf (unlike (a .head) t (a .port) (now (a .bytes)) (sym (c .before .before .bad-lengths .ensures) ∙ c .before .if1 .taken)), λ _. (c .refused .ensures .2, c .refused .ensures .3, refl))
+    (told ∙ ap seenOf (by-bad (a .head) t (a .port) (now (a .bytes)) (sym (c .before .before .bad-lengths .ensures) ∙ c .before .if1 .taken)), λ _. (c .refused .ensures .2, c .refused .ensures .3, refl))
 
 bad-head-requires : tie.Need-bad-head-requires
 bad-head-requires c κs = search needs
@@ -42,9 +42,9 @@ returns-2 c =
     let t = lists (now (a .nodes)) (now (a .starts)) (now (a .ports)) (now (a .sizes)) in
     let good = sym (c .before .before .before .before .bad-lengths .ensures) ∙ c .before .before .before .if1 .left in
     let told = refusal-told (a .head) t (c .refused2 .result) 7 (c .refused2 .ensures) in
-    let outside = head-outside (a .head) t (sym (c .before .before .bad-head .ensures) ∙ c .before .if2 .taken) in
+    let outside = by-head (a .head) t (sym (c .before .before .bad-head .ensures) ∙ c .before .if2 .taken) in
     let stepped = step-at-7 (gateIn (a .head) t) (a .port) (now (a .bytes)) outside in
-    (told ∙ ap seenOf (sym stepped ∙ alike (a .head) t (a .port) (now (a .bytes)) good), λ _. (c .refused2 .ensures .2, c .refused2 .ensures .3, refl))
+    (told ∙ ap seenOf (sym stepped ∙ by-bad (a .head) t (a .port) (now (a .bytes)) good), λ _. (c .refused2 .ensures .2, c .refused2 .ensures .3, refl))
 
 read-requires : tie.Need-read-requires
 read-requires c κs = search needs
@@ -77,7 +77,7 @@ returns-3 c =
     let good = sym (c .before .before .before .before .before .before .before .before .before .before .before .bad-lengths .ensures) ∙ c .before .before .before .before .before .before .before .before .before .before .if1 .left in
     let told = refusal-told (a .head) t (c .refused3 .result) 7 (c .refused3 .ensures) in
     let stepped = step-at-7 (gateIn (a .head) t) (a .port) (now (a .bytes)) (sym (c .before .before .over-lines .ensures .0) ∙ c .before .if3 .taken) in
-    (told ∙ ap seenOf (sym stepped ∙ alike (a .head) t (a .port) (now (a .bytes)) good), λ _. (c .refused3 .ensures .2, c .refused3 .ensures .3, refl))
+    (told ∙ ap seenOf (sym stepped ∙ by-bad (a .head) t (a .port) (now (a .bytes)) good), λ _. (c .refused3 .ensures .2, c .refused3 .ensures .3, refl))
 
 refused-requires-4 : tie.Need-refused-requires-4
 refused-requires-4 c κs = search needs
@@ -102,7 +102,7 @@ returns-4 c =
     let inside = sym (c .before .before .before .before .over-lines .ensures .0) ∙ c .before .before .before .if3 .left in
     let told = refusal-told (a .head) t (c .refused4 .result) 8 (c .refused4 .ensures) in
     let stepped = step-at-8 (gateIn (a .head) t) (a .port) (now (a .bytes)) inside (ports-reached (a .head) t (a .port) (c .before .if4 .taken)) in
-    (told ∙ ap seenOf (sym stepped ∙ alike (a .head) t (a .port) (now (a .bytes)) good), λ _. (c .refused4 .ensures .2, c .refused4 .ensures .3, refl))
+    (told ∙ ap seenOf (sym stepped ∙ by-bad (a .head) t (a .port) (now (a .bytes)) good), λ _. (c .refused4 .ensures .2, c .refused4 .ensures .3, refl))
 
 enum-known-reading : tie.Need-enum-known-reading
 enum-known-reading c = search needs
@@ -138,7 +138,7 @@ returns-5 c =
     let told = refusal-told (a .head) t (c .refused5 .result) (c .before .number-in .result) (c .refused5 .ensures) in
     let number = ap (λ (n : ℕ). seenOf (refusing (gateIn (a .head) t) n)) (c .before .number-in .ensures ∙ ap numberOf read) in
     let stepped = step-at-reading (a .head) t (a .port) (now (a .bytes)) (Refused _) inside (c .before .before .before .before .if4 .left) (sym (c .before .before .before .before .before .before .before .before .before .before .before .before .read .ensures) ∙ read) in
-    (told ∙ number ∙ stepped ∙ ap seenOf (alike (a .head) t (a .port) (now (a .bytes)) good), λ _. (c .refused5 .ensures .2, c .refused5 .ensures .3, refl))
+    (told ∙ number ∙ stepped ∙ ap seenOf (by-bad (a .head) t (a .port) (now (a .bytes)) good), λ _. (c .refused5 .ensures .2, c .refused5 .ensures .3, refl))
 
 others-requires : tie.Need-others-requires
 others-requires c κs = search needs
@@ -171,7 +171,7 @@ returns-6 c =
     let wanted = c .before .before .before .before .before .before .before .before .before .before .before .before .before .before .before .before .before .before .before .before .over-lines .ensures .1 (c .before .before .before .before .before .before .before .before .before .before .before .before .before .before .before .before .before .before .before .if3 .left) ∙ ap (wantedBy (gateIn (a .head) t)) (c .before .before .before .before .before .before .before .before .before .before .before .before .before .before .before .reading .given .1) in
     let sent = c .before .before .before .before .before .before .before .before .before .before .before .before .before .others .ensures ∙ by-ports (a .head) t (a .port) (c .before .before .before .before .before .before .before .before .before .before .before .before .before .before .before .before .before .before .before .before .over-lines .result .wanted) ∙ goes-wanted (gateIn (a .head) t) (a .port) m (c .before .before .before .before .before .before .before .before .before .before .before .before .before .before .before .before .before .before .before .before .over-lines .result .wanted) wanted in
     let stepped = step-at-reading (a .head) t (a .port) (now (a .bytes)) (Read m) inside (c .before .before .before .before .before .before .before .before .before .before .before .before .before .before .before .before .before .if4 .left) (sym (c .before .before .before .before .before .before .before .before .before .before .before .before .before .before .before .before .before .before .before .before .before .before .before .before .before .read .ensures) ∙ c .before .before .before .before .before .before .before .before .before .before .before .before .before .before .before .reading .given .1) in
-    (seen sent (c .before .before .before .before .before .before .before .before .taken .ensures) ∙ stepped ∙ ap seenOf (alike (a .head) t (a .port) (now (a .bytes)) good), λ refused. absurd (refused refl))
+    (seen sent (c .before .before .before .before .before .before .before .before .taken .ensures) ∙ stepped ∙ ap seenOf (by-bad (a .head) t (a .port) (now (a .bytes)) good), λ refused. absurd (refused refl))
 
 pub receive-lent-spec : {M : Type 1} → statement M
 receive-lent-spec =

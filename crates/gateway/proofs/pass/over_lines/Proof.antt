@@ -4,7 +4,7 @@ use borrow.Author.Needs.{needs}
 use denote.Ref.{now}
 use Rattle.gateway_rules.specs.State.{lists}
 use Rattle.gateway.proofs.InBounds.{few-lines, few-ports, automatic-block}
-use Rattle.gateway.proofs.Limits.{by-lines-alone}
+use Rattle.gateway.proofs.Limits.{by-head}
 use Rattle.gateway.proofs.Wanting.{everywhere, where-held}
 use Rattle.gateway.proofs.pass.over_lines.Statement.{statement}
 use Rattle.gateway.proofs.pass.over_lines.Tie as tie
@@ -29,14 +29,14 @@ returns c =
     let a = c .before .before .before .before .before .before .before .before .before .before .args in
     let t = lists (now (a .nodes)) (now (a .starts)) (now (a .ports)) (now (a .sizes)) in
     let asked = sym (c .before .before .e .given .1) ∙ c .before .before .before .before .asked .ensures in
-    (c .looked-up .ensures .0 ∙ sym (by-lines-alone (a .head) t (c .before .before .before .before .before .before .before .before .before .before .pre .1)), λ good. c .looked-up .ensures .1 good ∙ where-held (a .head) t (a .reading) (c .before .before .e .given .0 .0) asked)
+    (c .looked-up .ensures .0 ∙ sym (by-head (a .head) t (c .before .before .before .before .before .before .before .before .before .before .pre .1)), λ good. c .looked-up .ensures .1 good ∙ where-held (a .head) t (a .reading) (c .before .before .e .given .0 .0) asked)
 
 returns-2 : tie.Need-returns-2
 returns-2 c =
     let a = c .before .before .before .before .before .before .before .before .before .args in
     let t = lists (now (a .nodes)) (now (a .starts)) (now (a .ports)) (now (a .sizes)) in
     let asked = sym (c .before .enum-told .given .1) ∙ c .before .before .before .asked .ensures in
-    (c .bad-lines .ensures ∙ sym (by-lines-alone (a .head) t (c .before .before .before .before .before .before .before .before .before .pre .1)), λ _. everywhere (a .head) t (a .reading) asked)
+    (c .bad-lines .ensures ∙ sym (by-head (a .head) t (c .before .before .before .before .before .before .before .before .before .pre .1)), λ _. everywhere (a .head) t (a .reading) asked)
 
 pub over-lines-spec : {M : Type 1} → statement M
 over-lines-spec =
