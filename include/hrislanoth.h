@@ -8,7 +8,7 @@
  * What a call writes (out, text, a box's four lists) overlaps nothing else that it is given: the lists neither each other nor the bytes. Those three are
  * all that a caller has to keep; nothing tests them.
  *
- * Link with target/staticlib/libface.a, which `rt staticlib face` writes, on x86-64.
+ * Link with target/staticlib/libc_face.a, which `rt staticlib c_face` writes, on x86-64.
  */
 #ifndef HRISLANOTH_H
 #define HRISLANOTH_H

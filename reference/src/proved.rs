@@ -119,7 +119,7 @@ pub struct Lists<'a> {
 mod linked {
     use super::{Answer, Block, Gateway, Head, LentAnswer, Message, Number, Reading, Writing};
 
-    #[link(name = "face", kind = "static")]
+    #[link(name = "c_face", kind = "static")]
     extern "C" {
         pub fn hrislanoth_block_of(number: u64) -> Block;
         pub fn hrislanoth_number_of(block: Block) -> Number;

@@ -14,7 +14,7 @@ fn main() {
     let mut text = io::large_buffer();
     let mut part = 0;
     while part < 64 {
-        let end = board::rehearse(&file[0..length], part * PART, &mut text);
+        let end = rehearsal::rehearse(&file[0..length], part * PART, &mut text);
         part += 1;
         io::write_all(STDOUT_FILENO, &text[0..end]);
         if end < PART {

@@ -1,0 +1,60 @@
+-- Answers and messages without enums, as C has them.
+use Prim.Native.Nat.{ℕ}
+use mathlib.Core.Bool.{cond}
+use lib.Dec.{eqb}
+use Rattle.range.specs.Answer.{Told}
+use Rattle.message.specs.declared.Field.{Field}
+use Rattle.message.specs.declared.Field.the-variants.{Present, Absent}
+use Rattle.message.specs.declared.Message.{Message}
+use Rattle.message.specs.declared.Reading.{Reading}
+use Rattle.message.specs.declared.Reading.the-variants.{Read, Refused}
+use Rattle.message.specs.declared.Writing.{Writing}
+use Rattle.message.specs.declared.Writing.the-variants.{Written, NotWritten}
+use Rattle.message.specs.Mti.{contentAt}
+use Rattle.c_face.specs.declared.FlatNumber.{FlatNumber}
+use Rattle.c_face.specs.declared.FlatMessage.{FlatMessage}
+use Rattle.c_face.specs.declared.FlatReading.{FlatReading}
+use Rattle.c_face.specs.declared.FlatWriting.{FlatWriting}
+
+-- ---- ranges
+
+abbrev pub numberOf : Told ℕ → FlatNumber
+numberOf t = record { refusal = t .refusal; number = t .value }
+
+-- ---- messages
+
+-- A field is there where its number is not 0.
+abbrev pub hasField : Field → ℕ
+hasField (Present x) = 1
+hasField Absent = 0
+
+abbrev pub fieldValue : Field → ℕ
+fieldValue (Present x) = x
+fieldValue Absent = 0
+
+abbrev pub fieldOf : ℕ → ℕ → Field
+fieldOf has x = cond (eqb has 0) Absent (Present x)
+
+abbrev pub messageOf : Message → FlatMessage
+messageOf m = record {
+  mti = m .mti;
+  source = m .source;
+  «has_destination» = hasField (m .destination);
+  destination = fieldValue (m .destination);
+  «has_event» = hasField (m .event);
+  event = fieldValue (m .event);
+}
+
+abbrev pub messageIn : FlatMessage → Message
+messageIn f = record { mti = f .mti; source = f .source; destination = fieldOf (f .«has_destination») (f .destination); event = fieldOf (f .«has_event») (f .event) }
+
+abbrev pub noMessage : FlatMessage
+noMessage = record { mti = 0; source = 0; «has_destination» = 0; destination = 0; «has_event» = 0; event = 0 }
+
+abbrev pub readingOf : Reading → FlatReading
+readingOf (Read m) = record { refusal = 0; message = messageOf m; «content_at» = contentAt (m .mti) }
+readingOf (Refused n) = record { refusal = n; message = noMessage; «content_at» = 0 }
+
+abbrev pub writingOf : Writing → FlatWriting
+writingOf (Written n) = record { refusal = 0; bytes = n }
+writingOf (NotWritten n) = record { refusal = n; bytes = 0 }

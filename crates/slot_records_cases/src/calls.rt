@@ -1,0 +1,61 @@
+// A call of a board file on slot records.
+use crate::files;
+use crate::own;
+use crate::records;
+use slot_records::Slot;
+use node::Answer;
+use node_rules::Node;
+
+pub(crate) struct Board {
+    pub node: Node,
+    pub count: usize,
+    pub slots: [Slot; 100],
+}
+
+pub(crate) struct Made {
+    pub answer: Answer,
+    pub board: Board,
+}
+
+// The call at a place of the file; a restart is made by the node's own record too, and must come to the same.
+pub(crate) fn make(board: Board, file: &[u8], at: usize, out: &mut [u8]) -> Made {
+    let node = board.node;
+    let slots = board.slots;
+    let count = files::within(board.count);
+    let number = files::byte(file, at);
+    let end = files::message_end(file, at);
+    let start = files::next(at, 5);
+    let from = files::lower(start, end);
+    let room = files::lower(files::room_at(file, at), out.len());
+    let driven = records::drive(
+        number,
+        files::slot_in(file, at),
+        files::byte(file, files::next(at, 2)),
+        node,
+        slots,
+        count,
+        &file[from..end],
+        &mut out[0..room],
+    );
+    let answer = driven.answer;
+    let after = driven.slots;
+    let next = answer.node;
+    if number == 1 {
+        own::compare(
+            node,
+            own::lists_of(slots),
+            count,
+            answer,
+            own::lists_of(after),
+            &out[0..room],
+        );
+    }
+    Made {
+        answer,
+        board: Board {
+            node: next,
+            count,
+            slots: after,
+        },
+    }
+}
