@@ -1,16 +1,22 @@
 //! The box and the boards once more, written from the documents alone and without the Rattle code: what the judge compares with.
+//! `judging` is the judge itself.
 //!
 //! The comments name the documents: "01-scope" is document 01, "001" the Event Transport Standard of July 2024, "003" the Message Network draft,
-//! "BOARD-FILES" the page docs/BOARD-FILES.md.
+//! "BOARD-FILES" the page docs/BOARD-FILES.md, "TRIAL-CASES" docs/TRIAL-CASES.md, "CASE-FILES" docs/CASE-FILES.md.
 
 pub mod board;
+pub mod case_file;
 pub mod gateway;
+pub mod gateway_cases;
+pub mod judging;
 pub mod message;
 pub mod node;
+pub mod node_cases;
 #[cfg(feature = "proved")]
 pub mod proved;
 pub mod range;
 pub mod trial;
+pub mod trial_cases;
 
 /// The refusal numbers (01-scope, Refusal numbers).
 pub mod refusal {

@@ -1,4 +1,4 @@
-//! The proved functions, linked from libface.a. `include/hrislanoth.h` says what they answer; the layouts here are that header's.
+//! The proved functions, linked from libc_face.a. `include/hrislanoth.h` says what they answer; the layouts here are that header's.
 #![allow(unsafe_code)]
 
 use crate::gateway;

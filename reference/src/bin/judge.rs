@@ -2,13 +2,8 @@
 
 use std::process::ExitCode;
 
-#[path = "../judging/mod.rs"]
-mod judging;
+use reference::judging::{archive, command};
 
 fn main() -> ExitCode {
-    let arguments = std::env::args_os().skip(1);
-    let words: Vec<String> = arguments
-        .map(|argument| argument.to_string_lossy().into_owned())
-        .collect();
-    judging::run(&words)
+    archive::run(&command::words())
 }

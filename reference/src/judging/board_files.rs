@@ -1,6 +1,6 @@
 //! Makes board files: a board, mostly one that is in bounds, and calls.
 
-use reference::board::{MOST_BYTES, MOST_CALLS, MOST_ROOM, MOST_SLOTS};
+use crate::board::{MOST_BYTES, MOST_CALLS, MOST_ROOM, MOST_SLOTS};
 
 use super::parts::{any_mti, bytes_damaged_at_times, change_a_byte, Parts};
 use super::random::Dice;

@@ -1,10 +1,10 @@
 //! Board files: valid and damaged ones, their text as a whole or in parts.
 
-use reference::board::{board_text, BAD_FILE};
-use reference::node::MOST_REPLY_BYTES;
-use reference::proved;
+use crate::board::board_text;
+use crate::proved;
 
 use super::board_files::any_file;
+use super::observed;
 use super::random::Dice;
 use super::texts::TextAnswer;
 use super::witness::{Hex, Text, Witness};
@@ -21,7 +21,7 @@ pub fn judge(dice: &mut Dice, witness: &mut Witness) {
     let file = any_file(dice);
     witness.show(|| format!("board file: {:?}", Hex(file.clone())));
     let text = board_text(&file);
-    observe(witness, &file, &text);
+    observed::board_file(witness.column, &file, &text);
     if dice.chance(75) {
         compare(witness, &file, &text, 0, text.len() + SLACK);
         return;
@@ -63,19 +63,4 @@ fn compare_parts(dice: &mut Dice, witness: &mut Witness, file: &[u8], text: &[u8
     }
     let asked = || "the parts joined".to_string();
     witness.compare(asked, &Text(joined), &Text(text.to_vec()));
-}
-
-/// Counts the board and, from the fields of each line, the refusals and the longest replies.
-fn observe(witness: &mut Witness, file: &[u8], text: &[u8]) {
-    if text == BAD_FILE {
-        witness.column.bad_files += 1;
-        return;
-    }
-    witness.column.saw_board(usize::from(file[16]));
-    for line in String::from_utf8_lossy(text).lines() {
-        let fields: Vec<&str> = line.split(' ').collect();
-        let refusal = fields[1].parse().expect("a refusal is a number");
-        witness.column.saw_answer(refusal);
-        witness.column.longest_replies += u64::from(fields[2].len() == 2 * MOST_REPLY_BYTES);
-    }
 }

@@ -3,8 +3,8 @@
 use std::collections::BTreeSet;
 use std::fmt::{self, Debug, Formatter};
 
-use reference::gateway::{self, Line};
-use reference::proved::{self, Block, Gateway, Head, PLACES};
+use crate::gateway::{self, Line};
+use crate::proved::{self, Block, Gateway, Head, PLACES};
 
 use super::counts::WAY_COUNT;
 use super::histories::{any_history, history_in, Arrival};

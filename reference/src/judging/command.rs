@@ -1,21 +1,21 @@
 //! The command line.
 
+use std::process::ExitCode;
+
+use super::output::say;
 use super::sort::Sort;
 
 /// What `--help` prints.
-pub const HELP: &str = "\
-judge [--seed N] [--files N] [--small N]
-judge [--seed N] --only SORT:INDEX
+const HELP: &str = include_str!("help.txt");
 
-Compares the proved functions with the reference on random inputs.
-
-  --seed N           the main seed (1)
-  --files N          how many trial files, how many board files and how many histories of a box (2000)
-  --small N          how many messages and how many ranges (50000); from 32768 on, every MTI is among them
-  --only SORT:INDEX  reruns one input, prints it in hexadecimal and both answers;
-                     SORT is range, message, box, trial or board
-
-Exit status: 0 where everything agreed, 1 where something differed, 2 where the command line is wrong.";
+/// One of the two judges: how it is called, its sorts of input, and how many there are where the line does not say; `small` is 0 where it has
+/// neither messages nor ranges.
+pub struct Judge {
+    pub name: &'static str,
+    pub sorts: &'static [Sort],
+    pub files: u64,
+    pub small: u64,
+}
 
 /// What the command line asks for.
 #[derive(Debug, PartialEq)]
@@ -37,12 +37,35 @@ impl Options {
     }
 }
 
+/// The words of the command line.
+pub fn words() -> Vec<String> {
+    let arguments = std::env::args_os().skip(1);
+    arguments
+        .map(|argument| argument.to_string_lossy().into_owned())
+        .collect()
+}
+
+/// The options, or the exit status where there is nothing left to do.
+pub fn asked(judge: &Judge, words: &[String]) -> Result<Options, ExitCode> {
+    match options_of(judge, words) {
+        Ok(options) if options.help => {
+            say(HELP.trim_end());
+            Err(ExitCode::SUCCESS)
+        }
+        Ok(options) => Ok(options),
+        Err(wrong) => {
+            eprintln!("{}: {wrong}; ./judge --help says what there is", judge.name);
+            Err(ExitCode::from(2))
+        }
+    }
+}
+
 /// The options, or what is wrong with the command line.
-pub fn options_of(words: &[String]) -> Result<Options, String> {
+fn options_of(judge: &Judge, words: &[String]) -> Result<Options, String> {
     let mut options = Options {
         seed: 1,
-        files: 2_000,
-        small: 50_000,
+        files: judge.files,
+        small: judge.small,
         only: None,
         help: false,
     };
@@ -52,8 +75,8 @@ pub fn options_of(words: &[String]) -> Result<Options, String> {
             "--help" => options.help = true,
             "--seed" => options.seed = number(word, words.next())?,
             "--files" => options.files = number(word, words.next())?,
-            "--small" => options.small = number(word, words.next())?,
-            "--only" => options.only = Some(input(words.next())?),
+            "--small" if judge.small > 0 => options.small = number(word, words.next())?,
+            "--only" => options.only = Some(input(judge, words.next())?),
             _ => return Err(format!("`{word}` is no option")),
         }
     }
@@ -68,11 +91,12 @@ fn number(option: &str, word: Option<&String>) -> Result<u64, String> {
 }
 
 /// The sort and the index after `--only`.
-fn input(word: Option<&String>) -> Result<(Sort, u64), String> {
+fn input(judge: &Judge, word: Option<&String>) -> Result<(Sort, u64), String> {
     let word = word.ok_or("--only needs an input, as trial:1234")?;
     let wrong = || format!("--only needs an input, as trial:1234, not `{word}`");
     let (name, index) = word.split_once(':').ok_or_else(wrong)?;
-    let sort = Sort::named(name).ok_or_else(wrong)?;
+    let known = |sort: &Sort| judge.sorts.contains(sort);
+    let sort = Sort::named(name).filter(known).ok_or_else(wrong)?;
     let index = index.parse().map_err(|_| wrong())?;
     Ok((sort, index))
 }
@@ -81,20 +105,36 @@ fn input(word: Option<&String>) -> Result<(Sort, u64), String> {
 mod tests {
     use super::*;
 
-    fn options(line: &str) -> Result<Options, String> {
+    const ALL: Judge = Judge {
+        name: "all",
+        sorts: &Sort::ALL,
+        files: 2_000,
+        small: 50_000,
+    };
+    const FILES_ONLY: Judge = Judge {
+        name: "files only",
+        sorts: &[Sort::Trial, Sort::Board],
+        files: 30,
+        small: 0,
+    };
+
+    fn options(judge: &Judge, line: &str) -> Result<Options, String> {
         let words: Vec<String> = line.split_whitespace().map(str::to_string).collect();
-        options_of(&words)
+        options_of(judge, &words)
     }
 
     #[test]
     fn good_lines() {
-        let defaults = options("").unwrap();
+        let defaults = options(&ALL, "").unwrap();
         assert_eq!((defaults.seed, defaults.files), (1, 2_000));
         assert_eq!((defaults.small, defaults.only), (50_000, None));
-        let all = options("--seed 7 --files 3 --small 4 --only box:9").unwrap();
+        let all = options(&ALL, "--seed 7 --files 3 --small 4 --only box:9").unwrap();
         assert_eq!((all.seed, all.files, all.small), (7, 3, 4));
         assert_eq!(all.only, Some((Sort::Box, 9)));
-        assert!(options("--help").unwrap().help);
+        assert!(options(&ALL, "--help").unwrap().help);
+        let files = options(&FILES_ONLY, "--only board:9").unwrap();
+        assert_eq!((files.files, files.small), (30, 0));
+        assert_eq!(files.only, Some((Sort::Board, 9)));
     }
 
     #[test]
@@ -111,7 +151,10 @@ mod tests {
             "--fast",
             "7",
         ] {
-            assert!(options(line).is_err(), "{line}");
+            assert!(options(&ALL, line).is_err(), "{line}");
+        }
+        for line in ["--small 4", "--only box:9"] {
+            assert!(options(&FILES_ONLY, line).is_err(), "{line}");
         }
     }
 }

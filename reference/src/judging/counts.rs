@@ -103,17 +103,77 @@ pub type Columns = [Column; SORTS];
 
 /// Prints the whole table.
 pub fn print_table(columns: &Columns) {
-    let names = Sort::ALL.map(|sort| sort.name());
-    say(format!("{:34}{}", "", cells(names)));
-    print_row("inputs", columns, |column| column.inputs);
-    print_row("answers", columns, |column| column.refusals.iter().sum());
-    print_row("accepted", columns, |column| column.refusals[0]);
-    for refusal in 1..REFUSALS {
-        print_row(&refusal_label(refusal), columns, |column| {
-            column.refusals[refusal]
+    let sorts = &Sort::ALL;
+    let table = Table { columns, sorts };
+    table.print_answers();
+    table.print_what_files_met();
+    table.print_what_calls_met();
+}
+
+/// Prints the table of sorts that are files.
+pub fn print_table_of_files(columns: &Columns, sorts: &[Sort]) {
+    let table = Table { columns, sorts };
+    table.print_answers();
+    table.print_what_files_met();
+}
+
+/// The columns, and the sorts that have one in what is printed.
+struct Table<'a> {
+    columns: &'a Columns,
+    sorts: &'a [Sort],
+}
+
+impl Table<'_> {
+    /// Prints the names of the sorts, how many inputs there were, and the answers.
+    fn print_answers(&self) {
+        self.print_cells("", |sort| sort.name().to_string());
+        self.print_row("inputs", |column| column.inputs);
+        self.print_row("answers", |column| column.refusals.iter().sum());
+        self.print_row("accepted", |column| column.refusals[0]);
+        for refusal in 1..REFUSALS {
+            self.print_row(&refusal_label(refusal), |column| column.refusals[refusal]);
+        }
+    }
+
+    /// Prints the rows of what boxes and boards go through.
+    fn print_what_files_met(&self) {
+        self.print_row("bad files", |column| column.bad_files);
+        self.print_row("tables filled to 256 lines", |column| column.tables_filled);
+        self.print_row("ports opened", |column| column.ports_opened);
+        for (place, (label, _, _)) in SIZES.iter().enumerate() {
+            self.print_row(label, |column| column.blocks[place]);
+        }
+        for (place, (label, _, _)) in BOARDS.iter().enumerate() {
+            self.print_row(label, |column| column.boards[place]);
+        }
+        self.print_row("replies of 1,024 bytes", |column| column.longest_replies);
+    }
+
+    /// Prints the rows of what only a call of a function can meet.
+    fn print_what_calls_met(&self) {
+        self.print_row("read and written back", |column| column.written_back);
+        self.print_row("texts asked for in part", |column| column.short_texts);
+        for (place, label) in WAYS.iter().enumerate() {
+            self.print_row(label, |column| column.ways[place]);
+        }
+        for (place, label) in LENGTHS.iter().enumerate() {
+            self.print_row(label, |column| column.lengths[place]);
+        }
+    }
+
+    /// Prints one row, a dash where nothing was seen.
+    fn print_row(&self, label: &str, value: impl Fn(&Column) -> u64) {
+        self.print_cells(label, |sort| match value(&self.columns[sort as usize]) {
+            0 => "-".to_string(),
+            seen => seen.to_string(),
         });
     }
-    print_what_was_met(columns);
+
+    /// Prints a label and a cell for each sort, right-aligned.
+    fn print_cells(&self, label: &str, cell: impl Fn(Sort) -> String) {
+        let cells = self.sorts.iter().map(|sort| format!("{:>10}", cell(*sort)));
+        say(format!("{label:34}{}", cells.collect::<String>()));
+    }
 }
 
 /// The label of a refusal's row.
@@ -122,48 +182,4 @@ fn refusal_label(refusal: usize) -> String {
         13 => "refused 13 (cannot arise)".to_string(),
         _ => format!("refused {refusal}"),
     }
-}
-
-/// Prints the rows below the refusals.
-fn print_what_was_met(columns: &Columns) {
-    print_row("read and written back", columns, |column| {
-        column.written_back
-    });
-    print_row("bad files", columns, |column| column.bad_files);
-    print_row("texts asked for in part", columns, |column| {
-        column.short_texts
-    });
-    print_row("tables filled to 256 lines", columns, |column| {
-        column.tables_filled
-    });
-    print_row("ports opened", columns, |column| column.ports_opened);
-    for (place, (label, _, _)) in SIZES.iter().enumerate() {
-        print_row(label, columns, |column| column.blocks[place]);
-    }
-    for (place, (label, _, _)) in BOARDS.iter().enumerate() {
-        print_row(label, columns, |column| column.boards[place]);
-    }
-    print_row("replies of 1,024 bytes", columns, |column| {
-        column.longest_replies
-    });
-    for (place, label) in WAYS.iter().enumerate() {
-        print_row(label, columns, |column| column.ways[place]);
-    }
-    for (place, label) in LENGTHS.iter().enumerate() {
-        print_row(label, columns, |column| column.lengths[place]);
-    }
-}
-
-/// Prints one row, a dash where nothing was seen.
-fn print_row(label: &str, columns: &Columns, value: impl Fn(&Column) -> u64) {
-    let shown = columns.map(|column| match value(&column) {
-        0 => "-".to_string(),
-        seen => seen.to_string(),
-    });
-    say(format!("{label:34}{}", cells(shown)));
-}
-
-/// The cells of a row, right-aligned.
-fn cells<T: std::fmt::Display>(values: [T; SORTS]) -> String {
-    values.map(|value| format!("{value:>10}")).concat()
 }

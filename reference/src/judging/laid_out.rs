@@ -2,8 +2,8 @@
 
 use std::collections::BTreeSet;
 
-use reference::gateway::{self, Line};
-use reference::proved::{Block, Gateway, Head, PLACES};
+use crate::gateway::{self, Line};
+use crate::proved::{Block, Gateway, Head, PLACES};
 
 use super::histories::Arrival;
 use super::parts::Parts;

@@ -2,8 +2,8 @@
 
 use std::fmt::{self, Debug, Formatter};
 
-use reference::proved::{self, Gateway, Head, LentAnswer, Lists, PLACES};
-use reference::refusal;
+use crate::proved::{self, Gateway, Head, LentAnswer, Lists, PLACES};
+use crate::refusal;
 
 use super::counts::LENGTH_COUNT;
 use super::histories::Arrival;

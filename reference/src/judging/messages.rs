@@ -1,8 +1,8 @@
 //! Messages: byte strings that are read, fields that are written, and each turned back.
 
-use reference::message::{self, Message};
-use reference::proved::{self, Reading};
-use reference::refusal;
+use crate::message::{self, Message};
+use crate::proved::{self, Reading};
+use crate::refusal;
 
 use super::parts::{any_mti, bytes_damaged_at_times, Parts};
 use super::random::Dice;

@@ -178,9 +178,9 @@ pub fn bytes_damaged_at_times(dice: &mut Dice, mut parts: Parts, percent: u64) -
 
 #[cfg(test)]
 mod tests {
+    use super::super::world::Area;
     use super::*;
-    use crate::judging::world::Area;
-    use reference::message::read;
+    use crate::message::read;
 
     /// What is made as a good message can be read.
     #[test]

@@ -1,7 +1,7 @@
 //! Ranges: a number's block, and a block's number.
 
-use reference::proved::{self, Block, Number};
-use reference::{range, refusal};
+use crate::proved::{self, Block, Number};
+use crate::{range, refusal};
 
 use super::random::Dice;
 use super::witness::Witness;

@@ -156,7 +156,7 @@ pub fn doubtful_node(dice: &mut Dice) -> u64 {
 #[cfg(test)]
 mod tests {
     use super::*;
-    use reference::range::{block_of, last};
+    use crate::range::{block_of, last};
 
     /// An area is what the reference makes of its number, at every run and both bits.
     #[test]
@@ -168,6 +168,6 @@ mod tests {
                 assert_eq!(last(area.first, run), Ok(area.last));
             }
         }
-        assert_eq!(Area::house().number, reference::trial::HOUSE_NUMBER);
+        assert_eq!(Area::house().number, crate::trial::HOUSE_NUMBER);
     }
 }

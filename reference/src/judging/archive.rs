@@ -1,0 +1,68 @@
+//! The proved functions, called in the archive with random inputs of five sorts.
+
+use std::process::ExitCode;
+
+use super::command::{self, Judge, Options};
+use super::counts::{self, Column, Columns};
+use super::random::Dice;
+use super::sort::Sort;
+use super::witness::Witness;
+use super::{boards, boxes, messages, ranges, trials, verdict};
+
+/// The judge of the archive.
+const JUDGE: Judge = Judge {
+    name: "./judge",
+    sorts: &Sort::ALL,
+    files: 2_000,
+    small: 50_000,
+};
+
+/// Does what the command line asks for.
+pub fn run(words: &[String]) -> ExitCode {
+    let options = match command::asked(&JUDGE, words) {
+        Ok(options) => options,
+        Err(ended) => return ended,
+    };
+    match options.only {
+        Some((sort, index)) => verdict::rerun(options.seed, sort, index, |witness| {
+            judge(options.seed, sort, index, witness);
+        }),
+        None => run_all(&options),
+    }
+}
+
+/// Runs all inputs and prints the table.
+fn run_all(options: &Options) -> ExitCode {
+    let mut columns = Columns::default();
+    let mut differences = Vec::new();
+    for sort in Sort::ALL {
+        let column = &mut columns[sort as usize];
+        for index in 0..options.inputs_of(sort) {
+            if differs(options.seed, sort, index, column) {
+                differences.push((sort, index));
+            }
+        }
+    }
+    counts::print_table(&columns);
+    verdict::print(&JUDGE, options.seed, &columns, &differences)
+}
+
+/// Whether the answers to one input differ.
+fn differs(seed: u64, sort: Sort, index: u64, column: &mut Column) -> bool {
+    let mut witness = Witness::new(column, false);
+    judge(seed, sort, index, &mut witness);
+    witness.differed
+}
+
+/// Makes one input and compares the answers.
+fn judge(seed: u64, sort: Sort, index: u64, witness: &mut Witness) {
+    witness.column.inputs += 1;
+    let mut dice = Dice::of_input(seed, sort as u64, index);
+    match sort {
+        Sort::Range => ranges::judge(&mut dice, witness),
+        Sort::Message => messages::judge(&mut dice, index, witness),
+        Sort::Box => boxes::judge(&mut dice, witness),
+        Sort::Trial => trials::judge(&mut dice, witness),
+        Sort::Board => boards::judge(&mut dice, witness),
+    }
+}
