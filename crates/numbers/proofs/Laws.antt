@@ -5,13 +5,13 @@ use mathlib.Core.List.{List, [], _∷_, _++_}
 use native.Mathlib.Nat.{pow-suc, pow-le-pow-right, one-le-pow, lt-of-lt-of-le, mod-eq-of-lt, mod-one}
 use lib.Arith.{mod-mul}
 use mathlib.Core.Bool.{Bool, true, false}
-use borrow.Author.Tests.{ltb-true, ltb-false}
+use borrow.Author.Tests.{ltb-true, ltb-false, le-leb, lt-leb}
 use lib.Dec.{ltb, lit<}
 use native.Mathlib.Numerals.{add-one}
 use native.Mathlib.Omega.{arith}
-use lib.ListN.{length, getD, take, drop, set, length-append, length-set, List·getD-append, List·getD-eq-default, length-take}
-use lib.Seq.{drop-cons, getD-set-same, drop-set-lt, append-snoc, getD-at, getD-take, getD-drop, take-suc, take-length}
-use Rattle.numbers.specs.Numbers.{spelled, numberIn, bytesOf, Bytes}
+use lib.ListN.{length, getD, take, drop, set, length-append, length-set, List·getD-append, List·getD-eq-default, length-take, length-drop}
+use lib.Seq.{drop-cons, getD-set-same, drop-set-lt, append-snoc, getD-at, getD-take, getD-drop, take-suc, take-length, take-all}
+use Rattle.numbers.specs.Numbers.{spelled, numberIn, bytesOf, Bytes, numberAt, atMostEight, pasted, numberPut}
 
 -- ---- the loops
 
@@ -96,3 +96,40 @@ part-bytes s at w h i = go (ltb i w) refl
         let past = ltb-false i w e in
         let size = length-take w (drop at s) in
         rw (List·getD-eq-default (take w (drop at s)) 0 {n = i} (omega arith)) (lit< tt)
+
+-- ---- a number at a place
+
+pub at-most-eight-narrow : (w : ℕ) → w ≤ 8 → atMostEight w ≡ w
+at-most-eight-narrow w h = rw (le-leb w 8 h)
+
+-- Past the end there are no bytes.
+pub number-past : (s : List ℕ) (at w : ℕ) → length s < at → 0 ≡ numberAt s at w
+unfolding spelled
+number-past s at w h =
+    let size = length-take w (drop at s) in
+    let rest = length-drop at s in
+    let none : length (take w (drop at s)) ≡ 0 = omega arith in
+    sym (ap (spelled (take w (drop at s))) none)
+
+-- What is read of a part of at most eight bytes is the number at its place.
+pub number-part : (s : List ℕ) (at n w : ℕ) → Bytes s → take n (drop at s) ≡ take w (drop at s) → w ≤ 8 → numberIn (take n (drop at s)) % 2 ^ 64 ≡ numberAt s at w
+number-part s at n w h e narrow =
+    let size = length-take w (drop at s) in
+    ap (λ (l : List ℕ). numberIn l % 2 ^ 64) e ∙ number-fits (take w (drop at s)) (part-bytes s at w h) (omega arith)
+
+-- As many bytes as there are, or more, are all of them.
+pub all-left : (s : List ℕ) (at n w : ℕ) → length s ≤ at + n → length s ≤ at + w → take n (drop at s) ≡ take w (drop at s)
+all-left s at n w h g =
+    let size = length-drop at s in
+    take-all n (drop at s) (omega arith) ∙ sym (take-all w (drop at s) (omega arith))
+
+-- Where there is room the number is put in, and else nothing is.
+pub put-where-room : (n w at : ℕ) (out : List ℕ) → at + w ≤ length out → pasted at (bytesOf w n) out ≡ numberPut n w at out
+put-where-room n w at out h = rw (le-leb (at + w) (length out) h)
+
+pub put-no-room : (n w at : ℕ) (out : List ℕ) → length out < at + w → out ≡ numberPut n w at out
+put-no-room n w at out h = rw (lt-leb (at + w) (length out) h)
+
+-- The number in w bytes at a place is below 256^w.
+pub number-at-below : (s : List ℕ) (at w : ℕ) → Bytes s → numberAt s at w < 256 ^ w
+number-at-below s at w h = let most = length-take w (drop at s) in number-below (take w (drop at s)) w (part-bytes s at w h) (omega arith)

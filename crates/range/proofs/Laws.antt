@@ -2,30 +2,21 @@
 use Prim.Native.Nat.{ℕ, zero, _+_, _-_, _*_, _/_, _%_, _^_, _≤_, _<_}
 use mathlib.Core.Path.{_≡_, refl, sym, ap, ap₂, _∙_}
 use mathlib.Core.Logic.{_↔_}
-use mathlib.Core.Bool.{Bool, true, false, cond, _&&_, not, and-false, false≢true}
+use mathlib.Core.Bool.{Bool, true, false, cond, _&&_, not, and-false}
 use native.Mathlib.Nat.{eq-of-mul-eq-mul-right, mod-lt, mod-eq-of-lt, mod-one, mul-mod-left, div-add-mod', div-eq-of-lt-le}
 use native.Mathlib.Omega.{arith}
-use borrow.Author.Tests.{not-true, not-false, eqb-true, eqb-false, eq-eqb, ne-eqb, leb-true, le-leb, lt-leb}
+use borrow.Author.Tests.{not-true, eqb-true, eqb-false, eq-eqb, ne-eqb, leb-true, le-leb, lt-leb}
 use lib.Dec.{leb, eqb}
 use lib.Count.{trailingZeros}
 use lib.Pow.{pow-pos}
+use Rattle.basics.proofs.Bools.{both, same-truth}
 use Rattle.range.specs.declared.Block.{Block}
-use Rattle.range.specs.Range.{bit, run, isBlock, inBlock, last, single, blockOf, hasNumber, numberOf, sameBlock}
+use Rattle.numbers.specs.Bits.{bit}
+use Rattle.range.specs.Range.{run, isBlock, inBlock, last, single, blockOf, hasNumber, numberOf, sameBlock}
 use Rattle.range.specs.declared.Answer.{Answer}
 use Rattle.range.specs.declared.RangeNumber.{RangeNumber}
 use Rattle.range.specs.Answer.{Told, told, refused, yesOrNo, rangeNumber, numberTold, holdsTold, sameTold}
 use Rattle.range.proofs.Runs.{run-of, zeros-divide}
-
--- ---- tests
-
-pub same-truth : (p q : Bool) → (p ≡ true → q ≡ true) → (q ≡ true → p ≡ true) → p ≡ q
-same-truth true q f g = sym (f refl)
-same-truth false true f g = g refl
-same-truth false false f g = refl
-
-pub both : (p q : Bool) → (p && q) ≡ true → (p ≡ true) × (q ≡ true)
-both true q e = (refl, e)
-both false q e = absurd (false≢true e)
 
 -- ---- what a block is
 
@@ -109,13 +100,6 @@ same-block a b = (
 )
 
 -- ---- what the code tests
-
--- A refused and a passed `!is_block(b)`.
-pub refuted : (t v : Bool) → not t ≡ true → t ≡ v → v ≡ false
-refuted t v e h = sym h ∙ not-true t e
-
-pub passed : (t v : Bool) → not t ≡ false → t ≡ v → v ≡ true
-passed t v e h = sym h ∙ not-false t e
 
 -- Counting the zeros of its start tests a block.
 pub block-counted : (b : Block) → leb (b .k) (trailingZeros 64 (b .start)) ≡ isBlock b

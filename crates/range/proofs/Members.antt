@@ -9,10 +9,12 @@ use borrow.Author.Tests.{eqb-true, eq-eqb}
 use lib.Dec.{eqb}
 use lib.Bits.{bitAnd}
 use lib.Pow.{pow-pos, shr-shr, shr-lt, shl-shr}
-use Rattle.range.specs.Range.{bit, run, inRange, inBlock, blockOf}
+use Rattle.numbers.specs.Bits.{bit}
+use Rattle.range.specs.Range.{run, inRange, inBlock, blockOf}
 use Rattle.range.proofs.Runs.{next-bit, run-of}
 use Rattle.range.proofs.Masks.{above-mask}
-use Rattle.range.proofs.Laws.{same-truth, block-of-block, in-block-prefix}
+use Rattle.basics.proofs.Bools.{same-truth}
+use Rattle.range.proofs.Laws.{block-of-block, in-block-prefix}
 
 -- The block of a number has the events of its range.
 pub in-range-block : (r e : ℕ) → inRange r e ≡ inBlock (blockOf r) e

@@ -9,7 +9,8 @@ use borrow.Author.Tests.{eqb-true, eqb-false, ne-eqb}
 use lib.Dec.{eqb, lit<}
 use lib.Pow.{pow-pos, shl-shr, high, low}
 use Rattle.range.specs.declared.Block.{Block}
-use Rattle.range.specs.Range.{bit, bitsEqual, run, isBlock, blockOf, hasNumber, numberOf}
+use Rattle.numbers.specs.Bits.{bit}
+use Rattle.range.specs.Range.{bitsEqual, run, isBlock, blockOf, hasNumber, numberOf}
 use Rattle.range.proofs.Runs.{Run, bit-lt, run-of, run-lowest, run-only, run-pos}
 use Rattle.range.proofs.Laws.{number-parts, number-ones, number-zeros, block-parts, block-start, block-of-block}
 

@@ -11,7 +11,8 @@ use mir.Syntax.{w8}
 use mir.Val.{Fits}
 use lib.Count.{trailingZeros, under, trailing-le}
 use lib.Pow.{pow-pos, mod-pow-add, shr-shr}
-use Rattle.range.specs.Range.{bit, bitsEqual, run}
+use Rattle.numbers.specs.Bits.{bit}
+use Rattle.range.specs.Range.{bitsEqual, run}
 
 -- A bit is 0 or 1.
 pub bit-lt : (n : ℕ) → n % 2 < 2

@@ -3,11 +3,8 @@ use Prim.Native.Nat.{ℕ, zero, suc, _+_, _-_, _*_, _/_, _%_, _^_}
 use mathlib.Core.Path.{_≡_}
 use mathlib.Core.Bool.{Bool, true, cond, _&&_, not}
 use lib.Dec.{leb, eqb}
+use Rattle.numbers.specs.Bits.{bit}
 use Rattle.range.specs.declared.Block.{Block}
-
--- Bit i of n.
-abbrev pub bit : ℕ → ℕ → ℕ
-bit i n = n / 2 ^ i % 2
 
 -- "The adjacent identical bits": how many of the w lowest bits of n equal b, counted from the lowest up to the first that does not.
 unfoldable pub bitsEqual : ℕ → ℕ → ℕ → ℕ
@@ -41,6 +38,10 @@ single e = record { start = e; k = 0 }
 -- The block of a range number: the bits above the run, and zeros below them.
 unfoldable pub blockOf : ℕ → Block
 blockOf r = record { start = r / 2 ^ run r * 2 ^ run r; k = run r }
+
+-- The automatically-routed set, given as a range number at start: the house default.
+abbrev pub house : ℕ
+house = 0x010000000000FFFF
 
 -- A block with k = 0 has no range number.
 unfoldable pub hasNumber : Block → Bool

@@ -4,6 +4,9 @@ ghost use Prim.Native.Nat.{_-_, _*_, _/_, _^_, _≤_};
 ghost use Rattle.range.specs.Range.{run as runOf, isBlock, blockOf, single as singleOf};
 ghost use Rattle.range.specs.Answer.{yesOrNo, rangeNumber, numberTold, holdsTold, sameTold};
 
+// The house default for the automatic block's range number.
+pub const HOUSE: u64 = 0x0100_0000_0000_FFFF;
+
 const ALL_ONES: u64 = 0xFFFF_FFFF_FFFF_FFFF;
 
 // 2^k numbers from start on; is_block tells which values are blocks.
@@ -95,20 +98,36 @@ pub fn holds(b: Block, e: u64) -> Answer
     }
 }
 
-// Whether two blocks are equal.
+// Whether two blocks are equal. What is not equal is tested last, so that whoever only asks for a yes pays for no test.
 pub fn same(a: Block, b: Block) -> Answer
+    ensures { λ r. ⌜ yesOrNo r ≡ sameTold a b ⌝ }
+{
+    if a.start != b.start {
+        return unlike(a, b);
+    }
+    if a.k != b.k {
+        return unlike(a, b);
+    }
+    if is_block(a) {
+        Answer::Yes
+    } else {
+        Answer::NoBlock
+    }
+}
+
+// The answer for two that differ.
+fn unlike(a: Block, b: Block) -> Answer
+    requires { ⌜ (a ≡ b → ⊥) ⌝ }
     ensures { λ r. ⌜ yesOrNo r ≡ sameTold a b ⌝ }
 {
     if !is_block(a) {
         return Answer::NoBlock;
     }
-    if !is_block(b) {
-        return Answer::NoBlock;
+    if is_block(b) {
+        Answer::No
+    } else {
+        Answer::NoBlock
     }
-    if a.start != b.start {
-        return Answer::No;
-    }
-    if a.k == b.k { Answer::Yes } else { Answer::No }
 }
 
 // How many of the lowest bits are equal to the lowest one.

@@ -9,7 +9,8 @@ use Rattle.range.specs.declared.Block.{Block}
 use Rattle.range.specs.Range.{isBlock, numberOf}
 use Rattle.range.specs.Answer.{told, numberTold}
 use Rattle.range.proofs.Masks.{ones-below}
-use Rattle.range.proofs.Laws.{refuted, passed, block-parts, number-told, number-refused, single-no-number, no-block-no-number, number-ones, number-zeros, number-whole}
+use Rattle.basics.proofs.Bools.{refuted, passed}
+use Rattle.range.proofs.Laws.{block-parts, number-told, number-refused, single-no-number, no-block-no-number, number-ones, number-zeros, number-whole}
 use Rattle.range.proofs.number_of.Statement.{statement}
 use Rattle.range.proofs.number_of.Tie as tie
 

@@ -2,16 +2,15 @@
 use Prim.Native.Nat.{ℕ, zero, suc, _+_, _-_, _*_, _/_, _%_, _^_, _<_}
 use mathlib.Core.Path.{_≡_, refl, sym, ap, ap₂, _∙_, subst}
 use mathlib.Core.Logic.{⊎-elim}
-use mathlib.Core.Bool.{Bool, true, false, cond, _||_, or-assoc, or-false, or-true}
-use mathlib.Core.List.{List, [], _∷_, _++_}
+use mathlib.Core.Bool.{Bool, true, false, cond, _||_, or-false, or-true}
 use native.Mathlib.Nat.{le-refl, le-trans, le-suc, pow-suc, mod-lt, mod-add-div', div-lt-iff-lt-mul, mul-add-div-right, eq-or-lt-of-le, le-of-suc-le-suc, not-suc-le-zero, add-comm, add-zero, zero-mul, one-mul}
 use native.Mathlib.Numerals.{add-one}
 use native.Mathlib.Omega.{arith}
 use borrow.Author.Tests.{eq-eqb, ne-eqb, eqb-true}
 use lib.Dec.{eqb}
 use lib.Pow.{pow-pos, pow-add, high, field, mod-mod-pow}
-use Rattle.range.specs.Range.{bit}
-use Rattle.sets.specs.Sets.{any, setOf}
+use Rattle.numbers.specs.Bits.{bit}
+use Rattle.basics.specs.Sets.{setOf}
 
 -- The empty set is 0.
 pub nobody : (n : ℕ) → setOf n (λ _. false) ≡ 0
@@ -116,9 +115,3 @@ set-had n f q e = set-ext n f (λ p. f p || eqb q p) (λ p _. go p (eqb q p) ref
     go : (p : ℕ) (t : Bool) → eqb q p ≡ t → f p ≡ (f p || t)
     go p true s = let here = ap f (sym (eqb-true q p s)) ∙ e in here ∙ sym (ap (λ (t : Bool). t || true) here)
     go p false s = sym (or-false (f p))
-
--- ---- lists
-
-pub any-append : {A : Type 0} (test : A → Bool) (xs ys : List A) → any test (xs ++ ys) ≡ (any test xs || any test ys)
-any-append test [] ys = refl
-any-append test (x ∷ xs) ys = ap (λ (t : Bool). test x || t) (any-append test xs ys) ∙ sym (or-assoc (test x) (any test xs) (any test ys))

@@ -1,9 +1,8 @@
 -- Sets of ports and of slots (document 01: "one digit per port from 0", "a 64-bit set, bit i for consumer slot i").
 use Prim.Native.Nat.{ℕ, zero, suc, _+_, _^_}
 use mathlib.Core.Bool.{Bool, false, cond, _||_}
-use mathlib.Core.List.{List, [], _∷_}
 use lib.Dec.{eqb}
-use Rattle.range.specs.Range.{bit}
+use Rattle.numbers.specs.Bits.{bit}
 
 -- The set of the numbers below n that pass, as a number: bit i for i.
 unfoldable pub setOf : ℕ → (ℕ → Bool) → ℕ
@@ -18,8 +17,3 @@ inSet set i = eqb (bit i set) 1
 abbrev pub anyBelow : ℕ → (ℕ → Bool) → Bool
 anyBelow zero test = false
 anyBelow (suc n) test = test n || anyBelow n test
-
--- Whether any of a list passes.
-abbrev pub any : {A : Type 0} → (A → Bool) → List A → Bool
-any test [] = false
-any test (x ∷ xs) = test x || any test xs

@@ -4,8 +4,8 @@ use mathlib.Core.Path.{_≡_, refl, sym, ap, _∙_, subst}
 use mathlib.Core.Logic.{_⊎_, inl, inr}
 use mathlib.Core.List.{List, [], _∷_, _++_, append-nil, append-assoc}
 use native.Mathlib.Omega.{arith}
-use Rattle.histories.specs.Since.{Never, Since}
-use Rattle.histories.specs.Since.Never.{nothing, nor}
+use Rattle.basics.specs.Since.{Never, Since}
+use Rattle.basics.specs.Since.Never.{nothing, nor}
 
 -- ---- lists that grow at the end
 

@@ -7,7 +7,7 @@ use native.Mathlib.Numerals.{add-one}
 use native.Mathlib.Omega.{arith}
 use lib.Dec.{lit<}
 use lib.Pow.{pow-mono, shl-exact}
-use Rattle.sets.specs.Sets.{setOf}
+use Rattle.basics.specs.Sets.{setOf}
 
 pub one-bit : (w i : ℕ) → i < w → 1 * 2 ^ i % 2 ^ w ≡ 2 ^ i
 one-bit w i l = shl-exact 1 i w (lit< tt) (omega arith) ∙ one-mul (2 ^ i)

@@ -1,0 +1,19 @@
+-- Lists: what passes a test, what is left out, and a list made place by place.
+use Prim.Native.Nat.{ℕ, zero, suc}
+use mathlib.Core.Bool.{Bool, false, cond, _||_}
+use mathlib.Core.List.{List, [], _∷_, _++_}
+
+-- Whether any of a list passes.
+abbrev pub any : {A : Type 0} → (A → Bool) → List A → Bool
+any test [] = false
+any test (x ∷ xs) = test x || any test xs
+
+-- Those that do not pass, in their order.
+abbrev pub without : {A : Type 0} → (A → Bool) → List A → List A
+without test [] = []
+without test (x ∷ xs) = cond (test x) (without test xs) (x ∷ without test xs)
+
+-- What stands at each of the first n places.
+unfoldable pub each : {A : Type 0} → ℕ → (ℕ → A) → List A
+each zero at = []
+each (suc n) at = each n at ++ (at n ∷ [])

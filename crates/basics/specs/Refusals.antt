@@ -1,0 +1,37 @@
+-- Refusals in an order: the first test that applies gives its number (document 01, "Refusal numbers").
+use Prim.Native.Nat.{ℕ, zero, suc}
+use mathlib.Core.Path.{_≡_}
+use mathlib.Core.Bool.{Bool, true, false, cond}
+use mathlib.Core.List.{List, [], _∷_, _++_}
+
+pub record Test : Type 0 where
+  pub number : ℕ
+  pub applies : Bool
+
+abbrev pub refuse : ℕ → Bool → Test
+refuse n t = record { number = n; applies = t }
+
+-- The refusal's number, 0 where no test applies.
+abbrev pub firstOf : List Test → ℕ
+firstOf [] = 0
+firstOf (t ∷ ts) = cond (t .applies) (t .number) (firstOf ts)
+
+-- The answer for a refusal's number: 0 is the value itself.
+abbrev pub answered : {A R : Type 0} → (A → R) → (ℕ → R) → ℕ → A → R
+answered accept reject zero x = accept x
+answered accept reject (suc n) x = reject (suc n)
+
+-- None of the tests applies.
+pub data None : List Test → Type 0 where
+  none : None []
+  passed : {t : Test} {ts : List Test} → t .applies ≡ false → None ts → None (t ∷ ts)
+
+-- The refusal n is given by a list of tests: one with that number applies, and none before it does.
+pub record Given (n : ℕ) (ts : List Test) : Type 0 where
+  pub before : List Test
+  pub test : Test
+  pub after : List Test
+  pub order : ts ≡ before ++ (test ∷ after)
+  pub earlier : None before
+  pub here : test .applies ≡ true
+  pub numbered : test .number ≡ n

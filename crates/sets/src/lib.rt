@@ -1,1 +1,0 @@
-// Sets as numbers: bit i for port or slot i. Definitions in specs/ and their laws in proofs/; no code.
