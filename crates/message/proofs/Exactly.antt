@@ -8,11 +8,11 @@ use lib.ListN.{length}
 use Rattle.message.specs.declared.Message.{Message}
 use Rattle.message.specs.declared.Reading.the-variants.{Read, Refused}
 use Rattle.message.specs.declared.Writing.the-variants.{Written, NotWritten}
-use Rattle.message.specs.Refusals.{answered, None, Given}
+use Rattle.basics.specs.Refusals.{answered, None, Given}
 use Rattle.message.specs.Messages.{messageBytes}
 use Rattle.message.specs.Reading.{messageIn, readTests, readOf}
 use Rattle.message.specs.Writing.{writeTests, writeOf, overwritten, outAfter}
-use Rattle.message.proofs.Firsts.{first-none, first-given, answered-yes, answered-no, refused-exactly, accepted-exactly}
+use Rattle.basics.proofs.Firsts.{first-none, first-given, answered-yes, answered-no, refused-exactly, accepted-exactly}
 
 -- ---- reading
 

@@ -1,20 +1,15 @@
 -- M4: exactly which MTIs are of each kind; every other one is "other", 04C6 and 0546 among them.
 use Prim.Native.Nat.{ℕ}
-use mathlib.Core.Path.{_≡_, refl, sym, ap, ap₂, _∙_}
+use mathlib.Core.Path.{_≡_, refl, sym, ap, _∙_}
 use mathlib.Core.Bool.{Bool, true, false, cond, not, Bool·beq, _&&_, _||_, true≢false}
 use mathlib.Core.List.{List, [], _∷_}
 use borrow.Author.Tests.{eqb-true}
 use lib.Dec.{eqb, ltb}
-use Rattle.range.specs.Range.{single, blockOf}
-use Rattle.range.proofs.Laws.{both}
+use Rattle.basics.proofs.Bools.{both}
 use Rattle.message.specs.declared.Kind.{Kind}
 use Rattle.message.specs.declared.Kind.the-variants.{InitializationComplete, EventReport, IdentifyConsumer, IdentifyProducer, ConsumerIdentified, ProducerIdentified, ConsumerRangeIdentified, ProducerRangeIdentified, IdentifyEvents, LearnEvent, Other}
 use Rattle.message.specs.declared.Meaning.{Meaning}
-use Rattle.message.specs.declared.Field.the-variants.{Present}
-use Rattle.message.specs.declared.Message.{Message}
-use Rattle.message.specs.declared.Announcement.the-variants.{Of, Nothing}
 use Rattle.message.specs.Mti.{sameKind, Row, table, other, lookup, meaningOf, kindOf}
-use Rattle.message.specs.Announcing.{announced, announcementOf}
 
 -- ---- which MTIs, by kind
 
@@ -120,27 +115,3 @@ unfolding meaningOf
 content-asked m =
     let asking : List ℕ = 0x0100 ∷ 0x0110 ∷ 0x0F14 ∷ [] in
     alike-everywhere (λ (x : Meaning). ltb 0 (x .least)) (oneOf asking) table m refl (λ u. sym (unknown-not-one asking table m refl u))
-
--- ---- announcements
-
-by-kind : (k : Kind) (e : ℕ) → announced k (Present e) ≡ cond (sameKind ConsumerIdentified k) (Of (single e)) (cond (sameKind ConsumerRangeIdentified k) (Of (blockOf e)) Nothing)
-by-kind InitializationComplete e = refl
-by-kind EventReport e = refl
-by-kind IdentifyConsumer e = refl
-by-kind IdentifyProducer e = refl
-by-kind ConsumerIdentified e = refl
-by-kind ProducerIdentified e = refl
-by-kind ConsumerRangeIdentified e = refl
-by-kind ProducerRangeIdentified e = refl
-by-kind IdentifyEvents e = refl
-by-kind LearnEvent e = refl
-by-kind Other e = refl
-
--- A message with an event announces it by three MTIs, its block by one, and nothing by any other.
-pub announces-exactly : (m : Message) (e : ℕ) → m .event ≡ Present e
-    → announcementOf m ≡ cond (oneOf (0x04C4 ∷ 0x04C5 ∷ 0x04C7 ∷ []) (m .mti)) (Of (single e)) (cond (oneOf (0x04A4 ∷ []) (m .mti)) (Of (blockOf e)) Nothing)
-unfolding announcementOf mtisOf
-announces-exactly m e p =
-    ap (announced (kindOf (m .mti))) p
-    ∙ by-kind (kindOf (m .mti)) e
-    ∙ ap₂ (λ (a b : Bool). cond a (Of (single e)) (cond b (Of (blockOf e)) Nothing)) (kind-exactly ConsumerIdentified refl (m .mti)) (kind-exactly ConsumerRangeIdentified refl (m .mti))

@@ -8,12 +8,12 @@ use borrow.Author.Tests.{eqb-true, eq-eqb, le-ltb}
 use lib.Dec.{eqb, ltb}
 use lib.ListN.{length}
 use Rattle.numbers.specs.Numbers.{numberIn}
-use Rattle.range.proofs.Laws.{both}
+use Rattle.basics.proofs.Bools.{both}
 use Rattle.message.specs.declared.Meaning.{Meaning}
 use Rattle.message.specs.declared.Message.{Message}
 use Rattle.message.specs.Mti.{isRestart, Row, addressed, carriesEvent, table, other, lookup, meaningOf, kindOf}
-use Rattle.message.specs.Messages.{badNode, badWherePresent, badNodes, misplaced, badContent, otherSource, contentTests}
-use Rattle.message.specs.Refusals.{Test, refuse, firstOf}
+use Rattle.message.specs.Messages.{badNode, badWherePresent, badNodes, misplaced, badContent, otherSource, contentTests, restTests}
+use Rattle.basics.specs.Refusals.{firstOf}
 
 -- ---- the table
 
@@ -84,13 +84,6 @@ source-any m s h = rw h
 pub source-same : (m : Message) (s : List ℕ) → numberIn s ≡ m .source → otherSource m s ≡ false
 unfolding otherSource
 source-same m s h = rw (eq-eqb (numberIn s) (m .source) h) (and-false (isRestart (kindOf (m .mti))))
-
--- The tests of the content that are left where the nodes are good and the fields are where they are flagged.
-abbrev pub restTests : ℕ → ℕ → List ℕ → List Test
-restTests m source s =
-    refuse 4 (ltb (length s) (meaningOf m .least) || ltb (meaningOf m .most) (length s))
-    ∷ refuse 5 (isRestart (kindOf m) && not (eqb (numberIn s) source))
-    ∷ []
 
 pub content-rest : (m : Message) (s : List ℕ) → badNodes m ≡ false → Placed m → firstOf (restTests (m .mti) (m .source) s) ≡ firstOf (contentTests m s)
 unfolding badContent otherSource

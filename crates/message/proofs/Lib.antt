@@ -1,9 +1,8 @@
 pub mod Laws
 pub mod Readings
-pub mod Pasting
-pub mod Pairs
-pub mod Firsts
+pub mod Pieces
 pub mod Writings
 pub mod RoundTrips
 pub mod Exactly
 pub mod KindsOfMti
+pub mod Sayings

@@ -10,11 +10,12 @@ use Rattle.message.specs.declared.Field.the-variants.{Present, Absent}
 use Rattle.message.specs.declared.Message.{Message}
 use Rattle.message.specs.declared.Reading.the-variants.{Read, Refused}
 use Rattle.message.specs.Mti.{addressed, carriesEvent, eventAt, contentAt, barred}
-use Rattle.message.specs.Messages.{badNode, badWherePresent, badNodes, misplaced, contentTests}
-use Rattle.message.specs.Refusals.{firstOf, answered}
-use Rattle.message.specs.Reading.{numberAt, fieldAt, mtiIn, fieldsIn, messageIn, readTests, readOf}
-use Rattle.message.proofs.Firsts.{first-none, first-passed, rest-passed, answered-yes, answered-no}
-use Rattle.message.proofs.Laws.{nodes-source, nodes-destination, nodes-good, Placed, restTests, content-rest}
+use Rattle.message.specs.Messages.{badNode, badWherePresent, badNodes, misplaced, contentTests, restTests}
+use Rattle.basics.specs.Refusals.{firstOf, answered}
+use Rattle.numbers.specs.Numbers.{numberAt}
+use Rattle.message.specs.Reading.{fieldAt, mtiIn, fieldsIn, messageIn, readTests, readOf}
+use Rattle.basics.proofs.Firsts.{first-none, first-passed, rest-passed, answered-yes, answered-no}
+use Rattle.message.proofs.Laws.{nodes-source, nodes-destination, nodes-good, Placed, content-rest}
 
 -- The fields that are read are where they are flagged.
 as-flagged : (t : Bool) (x : ℕ) → misplaced t (cond t (Present x) Absent) ≡ false

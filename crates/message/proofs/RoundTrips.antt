@@ -7,26 +7,27 @@ use native.Mathlib.Nat.{mod-eq-of-lt}
 use native.Mathlib.Omega.{arith}
 use lib.ListN.{length, take, drop, take-append-drop, length-drop}
 use lib.Seq.{length-take-le, take-at, drop-at, drop-drop}
-use Rattle.numbers.specs.Numbers.{numberIn, bytesOf, Bytes}
+use Rattle.numbers.specs.Numbers.{numberIn, bytesOf, Bytes, numberAt}
 use Rattle.numbers.proofs.Laws.{bytes-length, part-bytes, bytes-of-number, number-of-bytes}
 use Rattle.message.specs.declared.Field.{Field}
 use Rattle.message.specs.declared.Field.the-variants.{Present, Absent}
 use Rattle.message.specs.declared.Message.{Message}
 use Rattle.message.specs.Mti.{addressed, carriesEvent, eventAt, contentAt, barred}
 use Rattle.message.specs.Messages.{fieldBytes, messageBytes, misplaced, badNode, badWherePresent, badNodes, badContent, otherSource, contentTests}
-use Rattle.message.specs.Refusals.{None}
-use Rattle.message.specs.Refusals.None.{none, passed}
+use Rattle.basics.specs.Refusals.{None}
+use Rattle.basics.specs.Refusals.None.{none, passed}
 use Rattle.message.specs.declared.Reading.the-variants.{Read}
 use Rattle.message.specs.declared.Writing.the-variants.{Written}
-use Rattle.message.specs.Reading.{numberAt, fieldAt, fieldsIn, mtiIn, messageIn, contentIn, readTests, readOf}
+use Rattle.message.specs.Reading.{fieldAt, fieldsIn, mtiIn, messageIn, contentIn, readTests, readOf}
 use Rattle.message.specs.Writing.{writeOf, outAfter}
 use Rattle.message.proofs.Exactly.{read-accepted, write-accepted, accepted-leaves}
-use Rattle.message.proofs.Firsts.{first-none, first-passed, rest-passed}
-use Rattle.message.proofs.Pasting.{pasted-first}
+use Rattle.basics.proofs.Firsts.{first-none, first-passed, rest-passed}
+use Rattle.numbers.proofs.Pasting.{pasted-first}
 use borrow.Author.Tests.{ltb-false, le-ltb, leb-false}
 use lib.Dec.{eqb, leb, ltb}
 use Rattle.message.proofs.Laws.{Placed}
-use Rattle.message.proofs.Writings.{neither, field-length, message-length, content-placed, write-done}
+use Rattle.basics.proofs.Bools.{neither}
+use Rattle.message.proofs.Writings.{field-length, message-length, content-placed, write-done}
 
 -- ---- read, then written
 

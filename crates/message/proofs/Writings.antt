@@ -1,24 +1,25 @@
 -- What writing answers and leaves, by the tests that a message meets.
 use Prim.Native.Nat.{ℕ, _+_, _≤_, _<_}
 use mathlib.Core.Path.{_≡_, refl, sym, ap, _∙_}
-use mathlib.Core.Bool.{Bool, true, false, cond, _||_, true≢false}
+use mathlib.Core.Bool.{Bool, true, false, cond, true≢false}
 use mathlib.Core.List.{List, [], _∷_, _++_}
 use native.Mathlib.Omega.{arith}
 use borrow.Author.Tests.{lt-ltb, le-ltb}
 use lib.ListN.{length, length-append}
-use Rattle.numbers.specs.Numbers.{bytesOf}
+use Rattle.numbers.specs.Numbers.{bytesOf, pasted}
 use Rattle.numbers.proofs.Laws.{bytes-length}
+use Rattle.basics.proofs.Bools.{neither}
 use Rattle.message.specs.declared.Field.{Field}
 use Rattle.message.specs.declared.Field.the-variants.{Present, Absent}
 use Rattle.message.specs.declared.Message.{Message}
 use Rattle.message.specs.declared.Writing.the-variants.{Written, NotWritten}
 use Rattle.message.specs.Mti.{addressed, carriesEvent, contentAt, barred}
-use Rattle.message.specs.Refusals.{refuse, firstOf, answered, None}
+use Rattle.basics.specs.Refusals.{refuse, firstOf, answered, None}
 use Rattle.message.specs.Messages.{fieldBytes, messageBytes, misplaced, badNodes, badContent, otherSource, contentTests}
-use Rattle.message.specs.Writing.{noRoom, writeTests, writeOf, overwritten, outAfter, pasted}
+use Rattle.message.specs.Writing.{noRoom, writeTests, writeOf, overwritten, outAfter}
 use Rattle.message.proofs.Laws.{Placed}
-use Rattle.message.proofs.Firsts.{first-some, first-none, first-after, first-passed, rest-passed, answered-yes, answered-no}
-use Rattle.message.proofs.Pasting.{pasted-first}
+use Rattle.basics.proofs.Firsts.{first-some, first-none, first-after, first-passed, rest-passed, answered-yes, answered-no}
+use Rattle.numbers.proofs.Pasting.{pasted-first}
 
 -- ---- how long a message is
 
@@ -43,10 +44,6 @@ message-length m s p =
 
 pub content-passed : (m : Message) (s : List ℕ) → firstOf (contentTests m s) ≡ 0 → None (contentTests m s)
 content-passed m s e = first-none (contentTests m s) refl .0 e
-
-pub neither : (p q : Bool) → (p || q) ≡ false → (p ≡ false) × (q ≡ false)
-neither true q e = absurd (true≢false e)
-neither false q e = (refl, e)
 
 -- No test of the list applies: the three facts.
 pub passed-tests : (m : Message) (s : List ℕ) → firstOf (contentTests m s) ≡ 0 → (badNodes m ≡ false) × (badContent m s ≡ false) × (otherSource m s ≡ false)

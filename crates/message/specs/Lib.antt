@@ -1,6 +1,5 @@
-pub mod Refusals
 pub mod Mti
 pub mod Messages
 pub mod Reading
 pub mod Writing
-pub mod Announcing
+pub mod Saying

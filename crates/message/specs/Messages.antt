@@ -9,7 +9,7 @@ use Rattle.message.specs.declared.Field.{Field}
 use Rattle.message.specs.declared.Field.the-variants.{Present, Absent}
 use Rattle.message.specs.declared.Message.{Message}
 use Rattle.message.specs.Mti.{addressed, carriesEvent, isRestart, meaningOf, kindOf}
-use Rattle.message.specs.Refusals.{Test, refuse}
+use Rattle.basics.specs.Refusals.{Test, refuse}
 
 -- A field of w bytes, where it is present.
 abbrev pub fieldBytes : ℕ → Field → List ℕ
@@ -49,3 +49,10 @@ otherSource m content = isRestart (kindOf (m .mti)) && not (eqb (numberIn conten
 -- What reading and writing both test of a message and its content, in their order.
 abbrev pub contentTests : Message → List ℕ → List Test
 contentTests m content = refuse 3 (badNodes m) ∷ refuse 4 (badContent m content) ∷ refuse 5 (otherSource m content) ∷ []
+
+-- Those of the content alone, which are left where the nodes are good and each field is where it is flagged.
+abbrev pub restTests : ℕ → ℕ → List ℕ → List Test
+restTests m source content =
+    refuse 4 (ltb (length content) (meaningOf m .least) || ltb (meaningOf m .most) (length content))
+    ∷ refuse 5 (isRestart (kindOf m) && not (eqb (numberIn content) source))
+    ∷ []

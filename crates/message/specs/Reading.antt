@@ -3,8 +3,8 @@ use Prim.Native.Nat.{ℕ}
 use mathlib.Core.Bool.{Bool, cond}
 use mathlib.Core.List.{List, _∷_}
 use lib.Dec.{ltb}
-use lib.ListN.{length, take, drop}
-use Rattle.numbers.specs.Numbers.{numberIn}
+use lib.ListN.{length, drop}
+use Rattle.numbers.specs.Numbers.{numberAt}
 use Rattle.message.specs.declared.Field.{Field}
 use Rattle.message.specs.declared.Field.the-variants.{Present, Absent}
 use Rattle.message.specs.declared.Message.{Message}
@@ -12,11 +12,7 @@ use Rattle.message.specs.declared.Reading.{Reading}
 use Rattle.message.specs.declared.Reading.the-variants.{Read, Refused}
 use Rattle.message.specs.Mti.{addressed, carriesEvent, eventAt, contentAt, barred}
 use Rattle.message.specs.Messages.{contentTests}
-use Rattle.message.specs.Refusals.{Test, refuse, firstOf, answered}
-
--- The number in the w bytes from a place on.
-abbrev pub numberAt : List ℕ → ℕ → ℕ → ℕ
-numberAt s at w = numberIn (take w (drop at s))
+use Rattle.basics.specs.Refusals.{Test, refuse, firstOf, answered}
 
 abbrev pub fieldAt : Bool → List ℕ → ℕ → ℕ → Field
 fieldAt flag s at w = cond flag (Present (numberAt s at w)) Absent
@@ -52,3 +48,8 @@ readTests s = refuse 1 (short s) ∷ refuse 2 (barred (mtiIn s)) ∷ refuse 1 (m
 
 unfoldable pub readOf : List ℕ → Reading
 readOf s = answered Read Refused (firstOf (readTests s)) (messageIn s)
+
+-- A refusal's number, 0 for a message.
+abbrev pub refusedWith : Reading → ℕ
+refusedWith (Read m) = 0
+refusedWith (Refused n) = n

@@ -3,13 +3,13 @@ use Prim.Native.Nat.{ℕ, _+_}
 use mathlib.Core.Bool.{Bool}
 use mathlib.Core.List.{List, [], _∷_, _++_}
 use lib.Dec.{ltb}
-use lib.ListN.{length, take, drop}
+use lib.ListN.{length, drop}
 use Rattle.message.specs.declared.Message.{Message}
 use Rattle.message.specs.declared.Writing.{Writing}
 use Rattle.message.specs.declared.Writing.the-variants.{Written, NotWritten}
 use Rattle.message.specs.Mti.{barred}
 use Rattle.message.specs.Messages.{messageBytes, contentTests}
-use Rattle.message.specs.Refusals.{Test, refuse, firstOf, answered}
+use Rattle.basics.specs.Refusals.{Test, refuse, firstOf, answered}
 
 -- Refusal 6: the output is shorter than what must be written.
 abbrev pub noRoom : Message → List ℕ → List ℕ → Bool
@@ -30,7 +30,3 @@ overwritten out bytes = bytes ++ drop (length bytes) out
 -- After an accepted write only the message's own bytes differ; a refusal leaves the output as it was.
 unfoldable pub outAfter : Message → List ℕ → List ℕ → List ℕ
 outAfter m content out = answered (overwritten out) (λ _. out) (firstOf (writeTests m content out)) (messageBytes m content)
-
--- The output with bytes put in from a place on: what each step of writing leaves.
-abbrev pub pasted : ℕ → List ℕ → List ℕ → List ℕ
-pasted at bytes out = take at out ++ (bytes ++ drop (at + length bytes) out)

@@ -1,13 +1,10 @@
 // What reading and writing both test of a message and its content.
 ghost use mathlib.Core.Path.{_≡_};
-ghost use mathlib.Core.Bool.{cond, not, _&&_, _||_};
-ghost use mathlib.Core.List.{[], _∷_};
-ghost use lib.Dec.{eqb, ltb};
-ghost use lib.ListN.{length};
-ghost use Rattle.numbers.specs.Numbers.{numberIn};
-ghost use Rattle.message.specs.Refusals.{refuse, firstOf};
-ghost use Rattle.message.specs.Messages.{badNode, badWherePresent, misplaced as isMisplaced, contentTests};
-ghost use Rattle.message.specs.Mti.{isRestart, meaningOf, kindOf};
+ghost use mathlib.Core.Bool.{cond, not};
+ghost use lib.Dec.{ltb};
+ghost use Rattle.basics.specs.Refusals.{firstOf};
+ghost use Rattle.message.specs.Messages.{badNode, badWherePresent, misplaced as isMisplaced, contentTests, restTests};
+ghost use Rattle.message.specs.Mti.{isRestart, meaningOf};
 use crate::Field;
 use crate::Kind;
 use crate::Message;
@@ -41,7 +38,7 @@ pub(crate) fn refusal_of(message: Message, content: &[u8]) -> u8
 
 // The refusal of the content alone, 4 or 5 in this order, or 0.
 pub(crate) fn content_refusal(code: u16, source: u64, content: &[u8]) -> u8
-    ensures { λ r. ⌜ r ≡ firstOf (refuse 4 (ltb (length (now (content .entry))) (meaningOf code .least) || ltb (meaningOf code .most) (length (now (content .entry)))) ∷ refuse 5 (isRestart (kindOf code) && not (eqb (numberIn (now (content .entry))) source)) ∷ []) ⌝ }
+    ensures { λ r. ⌜ r ≡ firstOf (restTests code source (now (content .entry))) ⌝ }
 {
     let meaning = mti::meaning_of(code);
     let least = meaning.least;

@@ -1,17 +1,17 @@
-// Messages: what an MTI means, bytes to a message and back, and what a message announces (003 section 3.1; 001 section 4).
-mod announcing;
+// Messages: what an MTI means, bytes to a message and back, and what a message says (003 section 3.1; 001 section 4).
 mod content;
-mod fixed;
 mod mti;
 mod reader;
+mod said;
 mod writer;
 
-pub use announcing::announcement_of;
 pub use content::bad_node;
 pub use mti::content_at;
 pub use mti::meaning_of;
 use range::Block;
 pub use reader::read;
+pub use reader::refused_with;
+pub use said::said_by;
 pub use writer::write;
 
 pub enum Kind {
@@ -58,7 +58,14 @@ pub enum Writing {
     NotWritten(u8),
 }
 
-pub enum Announcement {
-    Of(Block),
+// What a message says to a box or to a board: a report of an event, an announcement of a block, a restart, an inquiry for the slots of a role
+// with an event, one for all slots with its destination, an event to learn, or nothing of these.
+pub enum Saying {
+    Report(u64),
+    Announcement(Block),
+    Restart,
+    Inquiry(u8, u64),
+    InquiryForAll(Field),
+    Learn(u64),
     Nothing,
 }

@@ -1,17 +1,14 @@
 // Bytes to a message.
 ghost use mathlib.Core.Path.{_≡_};
-ghost use mathlib.Core.Bool.{true};
-ghost use Prim.Native.Nat.{_+_, _≤_};
-ghost use lib.ListN.{length};
-ghost use Rattle.message.specs.Refusals.{firstOf};
-ghost use Rattle.message.specs.Mti.{addressed, contentAt};
+ghost use Prim.Native.Nat.{_≤_};
+ghost use Rattle.basics.specs.Refusals.{firstOf};
+ghost use Rattle.message.specs.Mti.{addressed};
 ghost use Rattle.message.specs.Messages.{badWherePresent};
-ghost use Rattle.message.specs.Reading.{numberAt, fieldAt, fieldsIn, readTests, readOf};
+ghost use Rattle.message.specs.Reading.{fieldAt, fieldsIn, readTests, readOf, refusedWith};
 use crate::Field;
 use crate::Message;
 use crate::Reading;
 use crate::content;
-use crate::fixed;
 use crate::mti;
 
 // The message that the bytes hold, or the refusal.
@@ -22,9 +19,19 @@ pub fn read(bytes: &[u8]) -> Reading
     if refusal != 0 {
         return Reading::Refused(refusal);
     }
-    let code = number(bytes, 0, 2) as u16;
+    let code = numbers::read_at(bytes, 0, 2) as u16;
     let message = fields(code, bytes);
     Reading::Read(message)
+}
+
+// A refusal's number, 0 for a message.
+pub fn refused_with(reading: Reading) -> u8
+    ensures { λ n. ⌜ n ≡ refusedWith reading ⌝ }
+{
+    match reading {
+        Reading::Read(_) => 0,
+        Reading::Refused(n) => n,
+    }
 }
 
 // The refusal, or 0: each field is tested before the next is read, so no message goes through memory.
@@ -34,7 +41,7 @@ fn refusal_in(bytes: &[u8]) -> u8
     if bytes.len() < 2 {
         return 1;
     }
-    let code = number(bytes, 0, 2) as u16;
+    let code = numbers::read_at(bytes, 0, 2) as u16;
     if mti::barred(code) {
         return 2;
     }
@@ -42,7 +49,7 @@ fn refusal_in(bytes: &[u8]) -> u8
     if bytes.len() < at {
         return 1;
     }
-    let source = number(bytes, 2, 6);
+    let source = numbers::read_at(bytes, 2, 6);
     if content::bad_node(source) {
         return 3;
     }
@@ -56,20 +63,18 @@ fn refusal_in(bytes: &[u8]) -> u8
 }
 
 fn bad_destination(code: u16, bytes: &[u8]) -> bool
-    requires { ⌜ contentAt code ≤ length (now bytes) ⌝ }
     ensures { λ yes. ⌜ yes ≡ badWherePresent (fieldAt (addressed code) (now (bytes .entry)) 8 6) ⌝ }
 {
     if code / 8 % 2 == 1 {
-        return content::bad_node(number(bytes, 8, 6));
+        return content::bad_node(numbers::read_at(bytes, 8, 6));
     }
     false
 }
 
 fn fields(code: u16, bytes: &[u8]) -> Message
-    requires { ⌜ contentAt code ≤ length (now bytes) ⌝ }
     ensures { λ m. ⌜ m ≡ fieldsIn code (now (bytes .entry)) ⌝ }
 {
-    let source = number(bytes, 2, 6);
+    let source = numbers::read_at(bytes, 2, 6);
     let destination = field_at(code / 8 % 2 == 1, bytes, 8, 6);
     let event = field_at(code / 4 % 2 == 1, bytes, mti::event_at(code), 8);
     Message {
@@ -81,29 +86,12 @@ fn fields(code: u16, bytes: &[u8]) -> Message
 }
 
 fn field_at(flag: bool, bytes: &[u8], at: usize, width: usize) -> Field
-    requires { ⌜ (width ≤ 8) × (flag ≡ true → at + width ≤ length (now bytes)) ⌝ }
+    requires { ⌜ width ≤ 8 ⌝ }
     ensures { λ f. ⌜ f ≡ fieldAt flag (now (bytes .entry)) at width ⌝ }
 {
     if flag {
-        Field::Present(number(bytes, at, width))
+        Field::Present(numbers::read_at(bytes, at, width))
     } else {
         Field::Absent
     }
-}
-
-// The number in so many bytes from a place on.
-fn number(bytes: &[u8], at: usize, width: usize) -> u64
-    requires { ⌜ (width ≤ 8) × (at + width ≤ length (now bytes)) ⌝ }
-    ensures { λ n. ⌜ n ≡ numberAt (now (bytes .entry)) at width ⌝ }
-{
-    if width == 8 {
-        return fixed::eight(bytes, at);
-    }
-    if width == 6 {
-        return fixed::six(bytes, at);
-    }
-    if width == 2 {
-        return fixed::two(bytes, at);
-    }
-    numbers::read(&bytes[at..at + width])
 }

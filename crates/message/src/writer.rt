@@ -3,14 +3,13 @@ ghost use mathlib.Core.Path.{_≡_};
 ghost use Prim.Native.Nat.{_+_, _≤_};
 ghost use mathlib.Core.List.{_++_};
 ghost use lib.ListN.{length};
-ghost use Rattle.numbers.specs.Numbers.{bytesOf};
+ghost use Rattle.numbers.specs.Numbers.{bytesOf, pasted};
 ghost use Rattle.message.specs.Messages.{fieldBytes, messageBytes};
-ghost use Rattle.message.specs.Writing.{writeOf, outAfter, pasted};
+ghost use Rattle.message.specs.Writing.{writeOf, outAfter};
 use crate::Field;
 use crate::Message;
 use crate::Writing;
 use crate::content;
-use crate::fixed;
 use crate::mti;
 
 // Writes the message with its content to the start of out, and answers how many bytes it took, or the refusal.
@@ -56,8 +55,8 @@ fn put_front(code: u64, source: u64, out: &mut [u8])
     requires { ⌜ 8 ≤ length (now out) ⌝ }
     ensures { λ _. ⌜ now (out .exit) ≡ pasted 0 (bytesOf 2 code ++ bytesOf 6 source) (now (out .entry)) ⌝ }
 {
-    fixed::put_six(source, 2, out);
-    fixed::put_two(code, 0, out);
+    numbers::write_at(source, 6, 2, out);
+    numbers::write_at(code, 2, 0, out);
 }
 
 // Writes a field that is present at its place, and answers the place after it.
@@ -68,27 +67,11 @@ fn put_field(field: Field, width: usize, at: usize, out: &mut [u8]) -> usize
 {
     match field {
         Field::Present(x) => {
-            put_number(x, width, at, out);
+            numbers::write_at(x, width, at, out);
             at + width
         }
         Field::Absent => at,
     }
-}
-
-// Writes a number in so many bytes from a place on.
-fn put_number(x: u64, width: usize, at: usize, out: &mut [u8])
-    requires { ⌜ at + width ≤ length (now out) ⌝ }
-    ensures { λ _. ⌜ now (out .exit) ≡ pasted at (bytesOf width x) (now (out .entry)) ⌝ }
-{
-    if width == 8 {
-        fixed::put_eight(x, at, out);
-        return;
-    }
-    if width == 6 {
-        fixed::put_six(x, at, out);
-        return;
-    }
-    numbers::write(x, &mut out[at..at + width]);
 }
 
 fn put_body(body: &[u8], at: usize, out: &mut [u8])

@@ -1,10 +1,10 @@
 // What is printed of a case.
 use libc::STDOUT_FILENO;
-use message::Announcement;
 use message::Field;
 use message::Kind;
 use message::Message;
 use message::Reading;
+use message::Saying;
 use message::Writing;
 
 // A byte string: the MTI, the source, and the number that fills the rest, six bytes at a time.
@@ -141,14 +141,12 @@ fn describe(m: Message) {
     hex(m.source, 1);
     field(b", to ", destination);
     field(b", event ", event);
-    match message::announcement_of(m) {
-        Announcement::Of(b) => {
-            text(b", announces ");
-            hex(b.start, 1);
-            text(b" k ");
-            decimal(b.k as u64);
-        }
-        Announcement::Nothing => {}
+    let said = message::said_by(m);
+    if let Saying::Announcement(b) = said {
+        text(b", announces ");
+        hex(b.start, 1);
+        text(b" k ");
+        decimal(b.k as u64);
     }
 }
 

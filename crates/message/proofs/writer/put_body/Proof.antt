@@ -6,7 +6,7 @@ use native.Mathlib.Numerals.{add-one}
 use native.Mathlib.Omega.{arith}
 use lib.ListN.{length, getD, set, length-set}
 use lib.Seq.{paste, paste-zero, paste-suc}
-use Rattle.message.proofs.Pasting.{all-copied}
+use Rattle.numbers.proofs.Pasting.{all-copied}
 use Rattle.message.proofs.writer.put_body.Statement.{statement}
 use Rattle.message.proofs.writer.put_body.Tie as tie
 

@@ -6,11 +6,11 @@ use native.Mathlib.Omega.{arith}
 use native.Mathlib.Nat.{add-zero}
 use lib.ListN.{length, take, drop, take-append-drop}
 use borrow.Author.Needs.{needs}
-use Rattle.numbers.proofs.Laws.{bytes-length}
+use Rattle.numbers.proofs.Laws.{bytes-length, put-where-room}
 use Rattle.message.specs.declared.Field.{Field}
 use Rattle.message.specs.declared.Field.the-variants.{Present, Absent}
 use Rattle.message.specs.Messages.{fieldBytes}
-use Rattle.message.specs.Writing.{pasted}
+use Rattle.numbers.specs.Numbers.{pasted}
 use Rattle.message.proofs.writer.put_field.Statement.{statement}
 use Rattle.message.proofs.writer.put_field.Tie as tie
 
@@ -23,8 +23,8 @@ none-pasted at out = ap (λ (n : ℕ). take at out ++ drop n out) (add-zero at) 
 enum-known-field : tie.Need-enum-known-field
 enum-known-field c = search needs
 
-put-number-requires : tie.Need-put-number-requires
-put-number-requires c κs = omega (arith, present-width (c .before .before .before .before .before .args .width) (c .before .before .field .given .1), c .before .before .before .before .before .pre)
+write-at-requires : tie.Need-write-at-requires
+write-at-requires c κs = search needs
 
 add-result : tie.Need-add-result
 add-result c = omega (arith, present-width (c .before .before .before .before .before .before .before .before .args .width) (c .before .before .before .before .before .field .given .1), c .before .before .before .before .before .before .before .before .pre, c .before .before .before .before .before .before .before .before .good)
@@ -37,10 +37,13 @@ same-length c = search needs
 
 returns : tie.Need-returns
 returns c =
-    let a = c .before .before .before .before .before .before .before .before .args in
+    let start = c .before .before .before .before .before .before .before .before in
+    let a = start .args in
     let e = c .before .before .before .before .before .field .given .1 in (
       ap (λ (n : ℕ). a .at + n) (sym (present-width (a .width) e)),
-      c .before .before .put-number .ensures ∙ ap (λ (f : Field). pasted (a .at) (fieldBytes (a .width) f) (a .out .now)) (sym e),
+      c .before .before .write-at .ensures
+          ∙ sym (put-where-room _ (a .width) (a .at) (a .out .now) (omega (arith, present-width (a .width) e, start .pre)))
+          ∙ ap (λ (f : Field). pasted (a .at) (fieldBytes (a .width) f) (a .out .now)) (sym e),
     )
 
 returns-2 : tie.Need-returns-2
@@ -56,7 +59,7 @@ put-field-spec =
     tie.close
     (tie.spec
     enum-known-field
-    put-number-requires
+    write-at-requires
     add-result
     enum-told
     same-length

@@ -1,28 +1,41 @@
 -- The source goes in first, the MTI before it.
-use mathlib.Core.Path.{ap, _∙_}
+use Prim.Native.Nat.{ℕ, _≤_}
+use mathlib.Core.Path.{_≡_, sym, ap, _∙_}
+use mathlib.Core.List.{List, _++_}
 use native.Mathlib.Omega.{arith}
+use lib.ListN.{length}
 use borrow.Author.Needs.{needs}
-use Rattle.numbers.specs.Numbers.{bytesOf}
-use Rattle.numbers.proofs.Laws.{bytes-length}
-use Rattle.message.specs.Writing.{pasted}
-use Rattle.message.proofs.Pairs.{pasted-before}
+use Rattle.numbers.specs.Numbers.{bytesOf, pasted, numberPut}
+use Rattle.numbers.proofs.Laws.{bytes-length, put-where-room}
+use Rattle.numbers.proofs.Pasting.{pasted-length}
+use Rattle.numbers.proofs.Pairs.{pasted-before}
 use Rattle.message.proofs.writer.put_front.Statement.{statement}
 use Rattle.message.proofs.writer.put_front.Tie as tie
 
-put-six-requires : tie.Need-put-six-requires
-put-six-requires c κs = search needs
+front : (code source : ℕ) (out : List ℕ) → 8 ≤ length out → numberPut code 2 0 (numberPut source 6 2 out) ≡ pasted 0 (bytesOf 2 code ++ bytesOf 6 source) out
+front code source out h =
+    let six = bytesOf 6 source in
+    let room = pasted-length 2 six out (omega (arith, bytes-length 6 source)) in
+    ap (numberPut code 2 0) (sym (put-where-room source 6 2 out (omega arith)))
+    ∙ sym (put-where-room code 2 0 (pasted 2 six out) (omega (arith, room)))
+    ∙ pasted-before 0 2 (bytesOf 2 code) six out (omega (arith, bytes-length 2 code)) (omega arith)
 
-put-two-requires : tie.Need-put-two-requires
-put-two-requires c κs = search needs
+write-at-requires : tie.Need-write-at-requires
+write-at-requires c κs = search needs
+
+write-at-requires-2 : tie.Need-write-at-requires-2
+write-at-requires-2 c κs = search needs
 
 same-length : tie.Need-same-length
 same-length c = search needs
 
 returns : tie.Need-returns
 returns c =
-    let a = c .before .before .before .before .before .before .before .before .before .args in
-    let mti = bytesOf 2 (a .code) in
-    c .before .before .put-two .ensures ∙ ap (pasted 0 mti) (c .before .before .before .before .before .before .put-six .ensures) ∙ pasted-before 0 2 mti (bytesOf 6 (a .source)) (a .out .now) (omega (arith, bytes-length 2 (a .code))) (omega (arith, c .before .before .before .before .before .before .before .before .before .pre))
+    let start = c .before .before .before .before .before .before .before .before .before in
+    let a = start .args in
+    c .before .before .write-at2 .ensures
+    ∙ ap (numberPut (a .code) 2 0) (c .before .before .before .before .before .before .write-at .ensures)
+    ∙ front (a .code) (a .source) (a .out .now) (start .pre)
 
 pub put-front-spec : {M : Type 1} → statement M
-put-front-spec = tie.close (tie.spec put-six-requires put-two-requires same-length returns)
+put-front-spec = tie.close (tie.spec write-at-requires write-at-requires-2 same-length returns)

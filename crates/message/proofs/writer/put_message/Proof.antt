@@ -5,11 +5,11 @@ use mathlib.Core.List.{List, _++_}
 use native.Mathlib.Omega.{arith}
 use borrow.Author.Needs.{needs}
 use lib.ListN.{length, length-append}
-use Rattle.numbers.specs.Numbers.{bytesOf}
+use Rattle.numbers.specs.Numbers.{bytesOf, pasted}
 use Rattle.numbers.proofs.Laws.{bytes-length}
 use Rattle.message.specs.Messages.{fieldBytes}
-use Rattle.message.specs.Writing.{pasted}
-use Rattle.message.proofs.Pasting.{Wrote, wrote-room, wrote-more, joined, piece-fits}
+use Rattle.numbers.proofs.Pasting.{Wrote, wrote-room, wrote-more}
+use Rattle.message.proofs.Pieces.{joined, piece-fits}
 use Rattle.message.proofs.writer.put_message.Statement.{statement}
 use Rattle.message.proofs.writer.put_message.Tie as tie
 

@@ -8,7 +8,7 @@ use lib.ListN.{length}
 use borrow.Author.Needs.{needs}
 use Rattle.message.specs.declared.Message.{Message}
 use Rattle.message.specs.declared.Writing.the-variants.{Written, NotWritten}
-use Rattle.message.specs.Refusals.{firstOf}
+use Rattle.basics.specs.Refusals.{firstOf}
 use Rattle.message.specs.Mti.{barred}
 use Rattle.message.specs.Messages.{messageBytes, contentTests}
 use Rattle.message.proofs.Writings.{message-length, passed-tests, content-placed, write-barred, write-content, write-full, write-done}

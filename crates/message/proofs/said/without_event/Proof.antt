@@ -1,24 +1,17 @@
--- Only the two kinds of a consumer announce.
-use mathlib.Core.Path.{sym, ap, _∙_}
+-- Without an event only a restart and an inquiry for all are left.
+use mathlib.Core.Path.{sym, ap}
 use borrow.Author.Needs.{needs}
 use Rattle.message.specs.declared.Kind.{Kind}
-use Rattle.message.specs.declared.Field.the-variants.{Present}
-use Rattle.message.specs.declared.Announcement.the-variants.{Of}
-use Rattle.message.specs.Announcing.{announced}
-use Rattle.message.proofs.announcing.by_kind.Statement.{statement}
-use Rattle.message.proofs.announcing.by_kind.Tie as tie
+use Rattle.message.specs.declared.Field.the-variants.{Absent}
+use Rattle.message.specs.Saying.{saying}
+use Rattle.message.proofs.said.without_event.Statement.{statement}
+use Rattle.message.proofs.said.without_event.Tie as tie
 
 enum-told : tie.Need-enum-told
 enum-told c = search needs
 
-single-requires : tie.Need-single-requires
-single-requires c κs = search needs
-
 enum-told-2 : tie.Need-enum-told-2
 enum-told-2 c = search needs
-
-block-of-requires : tie.Need-block-of-requires
-block-of-requires c κs = search needs
 
 enum-told-3 : tie.Need-enum-told-3
 enum-told-3 c = search needs
@@ -48,14 +41,10 @@ enum-told-11 : tie.Need-enum-told-11
 enum-told-11 c = search needs
 
 returns : tie.Need-returns
-returns c =
-    let n = c .before .before .before .args .number in
-    ap Of (c .single .ensures) ∙ sym (ap (λ (k : Kind). announced k (Present n)) (c .before .enum-told .given .1))
+returns c = search needs
 
 returns-2 : tie.Need-returns-2
-returns-2 c =
-    let n = c .before .before .before .args .number in
-    ap Of (c .block-of .ensures) ∙ sym (ap (λ (k : Kind). announced k (Present n)) (c .before .enum-told2 .given .1))
+returns-2 c = sym (ap (λ (k : Kind). saying k Absent (c .before .before .args .destination)) (c .enum-told2 .given .1))
 
 returns-3 : tie.Need-returns-3
 returns-3 c = search needs
@@ -84,14 +73,12 @@ returns-10 c = search needs
 returns-11 : tie.Need-returns-11
 returns-11 c = search needs
 
-pub by-kind-spec : {M : Type 1} → statement M
-by-kind-spec =
+pub without-event-spec : {M : Type 1} → statement M
+without-event-spec =
     tie.close
     (tie.spec
     enum-told
-    single-requires
     enum-told-2
-    block-of-requires
     enum-told-3
     enum-told-4
     enum-told-5
