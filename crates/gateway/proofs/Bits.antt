@@ -4,8 +4,8 @@ use mathlib.Core.Path.{_≡_, sym, ap, _∙_}
 use mathlib.Core.Bool.{true, false, _||_}
 use native.Mathlib.Nat.{zero-div}
 use lib.Dec.{eqb}
-use Rattle.sets.specs.Sets.{setOf, inSet}
-use Rattle.sets.proofs.Sets.{set-of-bits, set-put, set-had}
+use Rattle.basics.specs.Sets.{setOf, inSet}
+use Rattle.basics.proofs.Sets.{set-of-bits, set-put, set-had}
 
 -- A set with a port put in, where it was not there and where it was.
 pub in-put : (set port : ℕ) → set < 256 → port < 8 → inSet set port ≡ false → set + 2 ^ port ≡ setOf 8 (λ p. inSet set p || eqb port p)

@@ -1,37 +1,70 @@
 -- What a state in bounds gives the code: at most 256 lines, at most 8 ports, an automatic block, and good lines.
-use Prim.Native.Nat.{ℕ, _≤_}
-use mathlib.Core.Path.{_≡_, sym, _∙_}
-use mathlib.Core.Bool.{true, false, not, _||_}
+use Prim.Native.Nat.{ℕ, _≤_, _<_}
+use mathlib.Core.Path.{_≡_, refl, sym, ap, _∙_}
+use mathlib.Core.Bool.{Bool, true, false, not, _||_}
+use mathlib.Core.List.{List, [], _∷_}
 use native.Mathlib.Omega.{arith}
-use borrow.Author.Tests.{lt-leb, leb-false, ltb-false, not-false}
-use lib.Dec.{eqb, leb, ltb}
-use Rattle.range.specs.Range.{isBlock}
+use borrow.Author.Tests.{leb-false, ltb-false, not-false}
+use lib.Dec.{leb, ltb}
+use Rattle.range.specs.Range.{isBlock, hasNumber}
+use Rattle.range.proofs.Laws.{number-parts}
 use Rattle.message.specs.Messages.{badNode}
-use Rattle.message.proofs.Writings.{neither}
+use Rattle.basics.specs.Lists.{any}
+use Rattle.basics.specs.Sets.{inSet}
+use Rattle.basics.proofs.Bools.{neither}
+use Rattle.basics.proofs.Each.{each-length}
 use Rattle.gateway_rules.specs.declared.Line.{Line}
-use Rattle.gateway_rules.specs.declared.Head.{Head}
-use Rattle.sets.specs.Sets.{any}
-use Rattle.gateway_rules.specs.State.{badPorts, badAutomatic, Lists, gateIn, outOfBounds}
+use Rattle.gateway_rules.specs.State.{badPorts, badLine, strayMark, badBesideLines, outOfBounds}
 use Rattle.gateway_rules.proofs.Sending.{two-to-eight}
-use Rattle.gateway.specs.Answers.{badAt, badHead, linesIn}
-use Rattle.gateway.proofs.Limits.{limits, stray}
+use Rattle.gateway.specs.declared.state.Head.{Head}
+use Rattle.gateway.specs.State.{Lists, lineAt, linesIn, gateIn, badHead, noBlock}
+
+-- ---- a line
+
+line-parts : (ports : ℕ) (l : Line) → badLine ports l ≡ false → (l .port < ports) × (badNode (l .node) ≡ false) × (isBlock (l .block) ≡ true)
+line-parts ports l e =
+    let h = neither (leb ports (l .port)) (badNode (l .node) || not (isBlock (l .block))) e in
+    let k = neither (badNode (l .node)) (not (isBlock (l .block))) (h .1) in
+    (leb-false ports (l .port) (h .0), k .0, not-false (isBlock (l .block)) (k .1))
 
 -- A line that is good for fewer ports is good for 8.
-pub good-line : (ports : ℕ) (l : Line) → ports ≤ 8 → badAt ports l ≡ false → badAt 8 l ≡ false
-good-line ports l b e =
-    let h = neither (leb ports (l .port)) (badNode (l .node) || not (isBlock (l .block))) e in
-    let below = leb-false ports (l .port) (h .0) in
-    rw (lt-leb 8 (l .port) (omega (arith, below, b))) (h .1)
+pub good-line : (ports : ℕ) (l : Line) → ports ≤ 8 → badLine ports l ≡ false → (l .port < 8) × (isBlock (l .block) ≡ true)
+good-line ports l b e = let h = line-parts ports l e in (omega (arith, h .0, b), h .2)
+
+-- ---- the state
+
+-- Once the head is known to be out of bounds or not.
+pub by-head : (head : Head) (t : Lists) {y : Bool} → badHead head ≡ y → outOfBounds (gateIn head t) ≡ (y || any (badLine (head .ports)) (linesIn (head .count) t))
+unfolding outOfBounds gateIn
+by-head head t e =
+    let lines = any (badLine (head .ports)) (linesIn (head .count) t) in
+    ap (λ (n : ℕ). badBesideLines (head .ports) n (inSet (head .marks)) (head .automatic) || lines) (each-length (head .count) (lineAt t)) ∙ ap (λ (y : Bool). y || lines) e
+
+in-bounds : (head : Head) (t : Lists) → outOfBounds (gateIn head t) ≡ false → (badHead head ≡ false) × (any (badLine (head .ports)) (linesIn (head .count) t) ≡ false)
+in-bounds head t o = neither (badHead head) (any (badLine (head .ports)) (linesIn (head .count) t)) (sym (by-head head t refl) ∙ o)
 
 pub head-good : (head : Head) (t : Lists) → outOfBounds (gateIn head t) ≡ false → badHead head ≡ false
-head-good head t o = neither (badHead head) (any (badAt (head .ports)) (linesIn (head .count) t)) (sym (limits head t) ∙ o) .0
+head-good head t o = in-bounds head t o .0
+
+-- Every line has a block.
+all-blocks : (ports : ℕ) (lines : List Line) → any (badLine ports) lines ≡ false → any noBlock lines ≡ false
+all-blocks ports [] e = refl
+all-blocks ports (l ∷ lines) e =
+    let h = neither (badLine ports l) (any (badLine ports) lines) e in
+    rw (line-parts ports l (h .0) .2) (all-blocks ports lines (h .1))
+
+pub blocks-good : (head : Head) (t : Lists) → outOfBounds (gateIn head t) ≡ false → any noBlock (linesIn (head .count) t) ≡ false
+blocks-good head t o = all-blocks (head .ports) (linesIn (head .count) t) (in-bounds head t o .1)
+
+-- ---- the head
 
 module _ (head : Head) (o : badHead head ≡ false) where
-  parts : (badPorts (head .ports) ≡ false) × (ltb 256 (head .count) ≡ false) × (badAutomatic (head .automatic) ≡ false)
+  parts : (badPorts (head .ports) ≡ false) × (ltb 256 (head .count) ≡ false) × (not (hasNumber (head .automatic)) ≡ false)
   parts =
-      let h = neither (badPorts (head .ports)) (ltb 256 (head .count) || (stray head || badAutomatic (head .automatic))) o in
-      let k = neither (ltb 256 (head .count)) (stray head || badAutomatic (head .automatic)) (h .1) in
-      (h .0, k .0, neither (stray head) (badAutomatic (head .automatic)) (k .1) .1)
+      let stray = strayMark (head .ports) (inSet (head .marks)) in
+      let h = neither (badPorts (head .ports)) (ltb 256 (head .count) || (stray || not (hasNumber (head .automatic)))) o in
+      let k = neither (ltb 256 (head .count)) (stray || not (hasNumber (head .automatic))) (h .1) in
+      (h .0, k .0, neither stray (not (hasNumber (head .automatic))) (k .1) .1)
 
   pub few-lines : head .count ≤ 256
   few-lines = ltb-false 256 (head .count) (parts .1)
@@ -40,4 +73,4 @@ module _ (head : Head) (o : badHead head ≡ false) where
   few-ports = two-to-eight (head .ports) .0 (parts .0) .1
 
   pub automatic-block : isBlock (head .automatic) ≡ true
-  automatic-block = not-false (isBlock (head .automatic)) (neither (eqb (head .automatic .k) 0) (not (isBlock (head .automatic))) (parts .2) .1)
+  automatic-block = number-parts (head .automatic) (not-false (hasNumber (head .automatic)) (parts .2)) .1

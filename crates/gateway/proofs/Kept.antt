@@ -6,9 +6,9 @@ use mathlib.Core.List.{List, [], _∷_, _++_}
 use native.Mathlib.Nat.{le-refl}
 use native.Mathlib.Omega.{arith}
 use Rattle.gateway_rules.specs.declared.Line.{Line}
-use Rattle.gateway_rules.specs.State.{Lists, lineAt}
-use Rattle.gateway_rules.specs.Step.{ownedAt, without}
-use Rattle.gateway.specs.Answers.{Whole, linesIn, putAt}
+use Rattle.gateway.specs.State.{Lists, lineAt, Whole, linesIn, putAt}
+use Rattle.gateway_rules.specs.Step.{ownedAt}
+use Rattle.basics.specs.Lists.{without}
 use Rattle.gateway.proofs.Places.{no-places, left-out, kept-on, put-last, put-elsewhere, put-whole}
 
 pub record Kept (port node : ℕ) (before there : Lists) (i j : ℕ) : Type 0 where

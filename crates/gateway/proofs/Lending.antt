@@ -1,41 +1,46 @@
 -- A step on lent lists: with 256 places each it is the step of the box.
 use Prim.Native.Nat.{ℕ}
-use mathlib.Core.Path.{_≡_, sym, ap, _∙_}
-use mathlib.Core.Bool.{Bool, false, cond, not, _||_}
+use mathlib.Core.Path.{_≡_, refl, sym, ap, _∙_}
+use mathlib.Core.Bool.{Bool, true, false, cond, not, _||_}
 use mathlib.Core.List.{List}
 use borrow.Author.Tests.{eqb-true, not-false}
 use lib.Dec.{eqb}
 use lib.ListN.{length}
-use Rattle.message.proofs.Writings.{neither}
-use Rattle.sets.proofs.Sets.{nobody}
-use Rattle.gateway_rules.specs.declared.Head.{Head}
-use Rattle.gateway_rules.specs.State.{Lists, gateIn}
+use Rattle.basics.proofs.Bools.{neither}
+use Rattle.basics.proofs.Sets.{nobody}
+use Rattle.gateway.specs.declared.state.Head.{Head}
+use Rattle.gateway.specs.State.{Lists, gateIn, Whole, headWith}
 use Rattle.gateway_rules.specs.Step.{Outcome, refusing, step}
 use Rattle.gateway.specs.declared.LentAnswer.{LentAnswer}
-use Rattle.gateway.specs.Answers.{Whole, headWith, seenLent, seenOf, badLengths, lentStep}
-
--- What a refusal says.
-pub refusal-told : (head : Head) (t : Lists) (r : LentAnswer) (n : ℕ) → (r .refusal ≡ n) × (r .sent ≡ 0) × (r .marks ≡ head .marks) × (r .count ≡ head .count)
-    → seenLent head r t ≡ seenOf (refusing (gateIn head t) n)
-refusal-told head t r n (number, nowhere, marks, count) =
-    λ i. record { refusal = number i; sent = (nowhere ∙ sym (nobody 8)) i; gate = gateIn (headWith head (marks i) (count i)) t }
+use Rattle.gateway.specs.Answers.{seenLent, seenOf, badLengths, lentStep, lentRefusalKeeps}
 
 abbrev pub bad : Lists → Bool
 bad t = badLengths (length (t .nodes)) (length (t .starts)) (length (t .ports)) (length (t .sizes))
-
-abbrev pub by-lengths : Head → Lists → ℕ → List ℕ → Bool → Outcome
-by-lengths head t q bytes y = cond y (refusing (gateIn head t) 7) (step (gateIn head t) q bytes)
 
 not-bad : (t : Lists) → Whole t → bad t ≡ false
 not-bad t w = rw (w .0, w .1, w .2, w .3)
 
 module _ (head : Head) (t : Lists) (q : ℕ) (bytes : List ℕ) where
-  -- Once the lengths are known to be bad or not.
-  pub by-bad : {y : Bool} → bad t ≡ y → by-lengths head t q bytes y ≡ lentStep head t q bytes
-  by-bad e = sym (ap (by-lengths head t q bytes) e)
+  abbrev by-lengths : Bool → Outcome
+  by-lengths y = cond y (refusing (gateIn head t) 7) (step (gateIn head t) q bytes)
+
+  pub bad-step : bad t ≡ true → lentStep head t q bytes ≡ refusing (gateIn head t) 7
+  bad-step e = ap by-lengths e
+
+  pub good-step : bad t ≡ false → lentStep head t q bytes ≡ step (gateIn head t) q bytes
+  good-step e = ap by-lengths e
 
   pub whole-step : Whole t → lentStep head t q bytes ≡ step (gateIn head t) q bytes
-  whole-step w = sym (by-bad (not-bad t w))
+  whole-step w = good-step (not-bad t w)
+
+  -- A refusal that the step gives.
+  pub refusal-given : (r : LentAnswer) (n : ℕ) → (r .refusal ≡ n) × (r .sent ≡ 0) × (r .marks ≡ head .marks) × (r .count ≡ head .count)
+      → lentStep head t q bytes ≡ refusing (gateIn head t) n
+      → (seenLent head r t ≡ seenOf (lentStep head t q bytes)) × lentRefusalKeeps head t r t
+  refusal-given r n (number, nowhere, marks, count) e =
+      let told : seenLent head r t ≡ seenOf (refusing (gateIn head t) n)
+      = λ i. record { refusal = number i; sent = (nowhere ∙ sym (nobody 8)) i; gate = gateIn (headWith head (marks i) (count i)) t } in
+      (told ∙ ap seenOf (sym e), λ _. (marks, count, refl))
 
 -- Lists of 256 places each.
 pub all-whole : (t : Lists) → bad t ≡ false → Whole t

@@ -1,11 +1,10 @@
-mod Below
 mod Bits
 mod Held
 mod InBounds
 mod Kept
 pub mod Lending
-mod Limits
 mod Marks
+pub mod PastTheCount
 mod Places
 mod Sends
 mod Stepping

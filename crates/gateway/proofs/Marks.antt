@@ -8,15 +8,14 @@ use borrow.Author.Tests.{eq-eqb, eqb-false, eqb-true, leb-true, leb-false, le-lt
 use lib.Dec.{eqb, leb, ltb}
 use lib.ListN.{length}
 use lib.Pow.{pow-mono, high}
-use Rattle.sets.specs.Sets.{setOf, inSet}
+use Rattle.basics.specs.Sets.{setOf, inSet}
 use Rattle.gateway_rules.specs.declared.Line.{Line}
-use Rattle.gateway_rules.specs.declared.Head.{Head}
-use Rattle.gateway_rules.specs.State.{Lists, gateIn, lineAt}
+use Rattle.gateway.specs.declared.state.Head.{Head}
+use Rattle.gateway.specs.State.{Lists, gateIn, lineAt, Whole, headWith, linesIn, putAt}
 use Rattle.gateway_rules.specs.Step.{has, withLines, announce}
-use Rattle.sets.proofs.Sets.{set-below, member-of-set}
-use Rattle.gateway.specs.Answers.{Whole, headWith, linesIn, putAt}
+use Rattle.basics.proofs.Sets.{set-below, member-of-set}
 use Rattle.gateway.proofs.Places.{put-last}
-use Rattle.gateway_rules.proofs.Lists.{count-places}
+use Rattle.basics.proofs.Each.{each-length}
 
 -- ---- the marks with one more
 
@@ -63,7 +62,7 @@ module _ (head : Head) (t : Lists) (l : Line) where
       → gateIn (headWith head (head .marks) (head .count + 1)) after ≡ announce (gateIn head t) l
   unfolding announce gateIn
   added-line after w n f e =
-      let room : ltb (length (linesIn (head .count) t)) 256 ≡ true = ap (λ (k : ℕ). ltb k 256) (count-places (head .count) (lineAt t)) ∙ lt-ltb (head .count) 256 f in
+      let room : ltb (length (linesIn (head .count) t)) 256 ≡ true = ap (λ (k : ℕ). ltb k 256) (each-length (head .count) (lineAt t)) ∙ lt-ltb (head .count) 256 f in
       let lines = ap (linesIn (head .count + 1)) e ∙ put-last (head .count) t l w f in
       rw (n, room) (ap (withLines (gateIn head t)) lines)
 
@@ -72,6 +71,6 @@ module _ (head : Head) (t : Lists) (l : Line) where
       → gateIn (headWith head marks (head .count)) t ≡ announce (gateIn head t) l
   unfolding announce gateIn
   opened-port marks n f m q e =
-      let room : ltb (length (linesIn (head .count) t)) 256 ≡ false = ap (λ (k : ℕ). ltb k 256) (count-places (head .count) (lineAt t)) ∙ le-ltb (head .count) 256 f in
+      let room : ltb (length (linesIn (head .count) t)) 256 ≡ false = ap (λ (k : ℕ). ltb k 256) (each-length (head .count) (lineAt t)) ∙ le-ltb (head .count) 256 f in
       let more : (p : ℕ) → inSet marks p ≡ (eqb p (l .port) || inSet (head .marks) p) = λ p. ap (λ (x : ℕ). inSet x p) e ∙ one-more-mark (head .marks) (l .port) m q p in
       rw (n, room) (λ i. record { ports = head .ports; automatic = head .automatic; lines = linesIn (head .count) t; marked = λ p. more p i })

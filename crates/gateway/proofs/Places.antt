@@ -2,61 +2,69 @@
 use Prim.Native.Nat.{ℕ, zero, suc, _+_, _<_}
 use mathlib.Core.Path.{_≡_, refl, sym, ap, ap₂, _∙_}
 use mathlib.Core.Logic.{⊎-elim}
-use mathlib.Core.Bool.{Bool, true, false, cond, _||_, or-false, or-true}
+use mathlib.Core.Bool.{Bool, true, false, cond, _||_, or-false, or-true, true≢false}
 use mathlib.Core.List.{List, [], _∷_, _++_, append-nil}
 use native.Mathlib.Nat.{eq-or-lt-of-le, le-of-suc-le-suc, not-suc-le-zero}
 use native.Mathlib.Numerals.{add-one}
 use native.Mathlib.Omega.{arith}
+use borrow.Author.Tests.{not-false}
 use lib.ListN.{length-set}
 use lib.Seq.{getD-set-same, getD-set-other}
+use Rattle.range.specs.Range.{isBlock}
 use Rattle.gateway_rules.specs.declared.Line.{Line}
-use Rattle.sets.specs.Sets.{any}
-use Rattle.gateway_rules.specs.State.{Lists, firstPlaces, lineAt}
-use Rattle.gateway_rules.specs.Step.{without}
-use Rattle.sets.proofs.Sets.{any-append}
+use Rattle.basics.specs.Lists.{any, each, without}
+use Rattle.gateway.specs.State.{Lists, lineAt, Whole, linesIn, putAt, noBlock}
+use Rattle.basics.proofs.Lists.{any-append}
 use Rattle.gateway_rules.proofs.OwnLines.{without-append}
-use Rattle.gateway_rules.proofs.Lists.{first-same}
-use Rattle.gateway.specs.Answers.{Whole, linesIn, putAt}
+use Rattle.basics.proofs.Each.{each-same}
 
-pub no-places : (at : ℕ → Line) → firstPlaces 0 at ≡ []
-unfolding firstPlaces
+pub no-places : (at : ℕ → Line) → each 0 at ≡ []
+unfolding each
 no-places at = refl
 
-pub one-more : (n : ℕ) (at : ℕ → Line) → firstPlaces (n + 1) at ≡ firstPlaces n at ++ (at n ∷ [])
-unfolding firstPlaces
-one-more n at = ap (λ (k : ℕ). firstPlaces k at) (add-one n)
+pub one-more : (n : ℕ) (at : ℕ → Line) → each (n + 1) at ≡ each n at ++ (at n ∷ [])
+unfolding each
+one-more n at = ap (λ (k : ℕ). each k at) (add-one n)
 
-pub any-more : (test : Line → Bool) (n : ℕ) (at : ℕ → Line) → any test (firstPlaces (n + 1) at) ≡ (any test (firstPlaces n at) || test (at n))
+pub any-more : (test : Line → Bool) (n : ℕ) (at : ℕ → Line) → any test (each (n + 1) at) ≡ (any test (each n at) || test (at n))
 any-more test n at =
     ap (any test) (one-more n at)
-    ∙ any-append test (firstPlaces n at) (at n ∷ [])
-    ∙ ap (λ (t : Bool). any test (firstPlaces n at) || t) (or-false (test (at n)))
+    ∙ any-append test (each n at) (at n ∷ [])
+    ∙ ap (λ (t : Bool). any test (each n at) || t) (or-false (test (at n)))
 
 without-more : (test : Line → Bool) (n : ℕ) (at : ℕ → Line)
-    → without test (firstPlaces (n + 1) at) ≡ without test (firstPlaces n at) ++ cond (test (at n)) [] (at n ∷ [])
-without-more test n at = ap (without test) (one-more n at) ∙ without-append test (firstPlaces n at) (at n ∷ [])
+    → without test (each (n + 1) at) ≡ without test (each n at) ++ cond (test (at n)) [] (at n ∷ [])
+without-more test n at = ap (without test) (one-more n at) ∙ without-append test (each n at) (at n ∷ [])
 
-pub left-out : (test : Line → Bool) (n : ℕ) (at : ℕ → Line) → test (at n) ≡ true → without test (firstPlaces (n + 1) at) ≡ without test (firstPlaces n at)
+pub left-out : (test : Line → Bool) (n : ℕ) (at : ℕ → Line) → test (at n) ≡ true → without test (each (n + 1) at) ≡ without test (each n at)
 left-out test n at e =
-    let rest = without test (firstPlaces n at) in
+    let rest = without test (each n at) in
     without-more test n at ∙ ap (λ (t : Bool). rest ++ cond t [] (at n ∷ [])) e ∙ append-nil rest
 
 pub kept-on : (test : Line → Bool) (n : ℕ) (at : ℕ → Line)
     → test (at n) ≡ false
-    → without test (firstPlaces (n + 1) at) ≡ without test (firstPlaces n at) ++ (at n ∷ [])
-kept-on test n at e = without-more test n at ∙ ap (λ (t : Bool). without test (firstPlaces n at) ++ cond t [] (at n ∷ [])) e
+    → without test (each (n + 1) at) ≡ without test (each n at) ++ (at n ∷ [])
+kept-on test n at e = without-more test n at ∙ ap (λ (t : Bool). without test (each n at) ++ cond t [] (at n ∷ [])) e
 
 -- ---- one of them
 
-pub any-at : (test : Line → Bool) (n : ℕ) (at : ℕ → Line) (i : ℕ) → i < n → test (at i) ≡ true → any test (firstPlaces n at) ≡ true
-unfolding firstPlaces
+pub any-at : (test : Line → Bool) (n : ℕ) (at : ℕ → Line) (i : ℕ) → i < n → test (at i) ≡ true → any test (each n at) ≡ true
+unfolding each
 any-at test zero at i l t = absurd (not-suc-le-zero l)
 any-at test (suc n) at i l t =
-    any-append test (firstPlaces n at) (at n ∷ [])
+    any-append test (each n at) (at n ∷ [])
     ∙ ⊎-elim
-    (λ e. let here : test (at n) ≡ true = sym (ap (λ (k : ℕ). test (at k)) e) ∙ t in rw here (or-true (any test (firstPlaces n at))))
+    (λ e. let here : test (at n) ≡ true = sym (ap (λ (k : ℕ). test (at k)) e) ∙ t in rw here (or-true (any test (each n at))))
     (λ k. let here = any-at test n at i k t in rw here)
     (eq-or-lt-of-le (le-of-suc-le-suc l))
+
+pub block-at : (n : ℕ) (t : Lists) (i : ℕ) → any noBlock (linesIn n t) ≡ false → i < n → {l : Line} → l ≡ lineAt t i → isBlock (l .block) ≡ true
+block-at n t i none b {l} here =
+    not-false (isBlock (l .block)) (ap noBlock here ∙ go (noBlock (lineAt t i)) refl)
+  where
+    go : (y : Bool) → noBlock (lineAt t i) ≡ y → noBlock (lineAt t i) ≡ false
+    go true e = absurd (true≢false (sym (any-at noBlock n (lineAt t) i b e) ∙ none))
+    go false e = e
 
 -- What the code's test of a line that it took out tells of the place.
 pub line-tells : (test : Line → Bool) (place : Line) {l : Line} {told is : Bool} → l ≡ place → told ≡ test l → told ≡ is → test place ≡ is
@@ -89,5 +97,5 @@ pub put-last : (n : ℕ) (t : Lists) (l : Line) → Whole t → n < 256 → line
 put-last n t l w b =
     one-more n (lineAt (putAt n l t))
     ∙ ap₂ (λ (xs : List Line) (y : Line). xs ++ (y ∷ []))
-    (first-same n (lineAt (putAt n l t)) (lineAt t) (λ i k. put-elsewhere t n l i (λ e. omega (arith, e, k))))
+    (each-same n (lineAt (putAt n l t)) (lineAt t) (λ i k. put-elsewhere t n l i (λ e. omega (arith, e, k))))
     (put-there t n l w b)

@@ -8,12 +8,12 @@ use lib.Dec.{leb}
 use Rattle.message.specs.declared.Message.{Message}
 use Rattle.message.specs.declared.Reading.{Reading}
 use Rattle.message.specs.declared.Reading.the-variants.{Read, Refused}
-use Rattle.message.specs.Reading.{messageIn, readTests, readOf}
-use Rattle.message.specs.Refusals.{firstOf, answered}
-use Rattle.gateway_rules.specs.declared.Head.{Head}
-use Rattle.gateway_rules.specs.State.{Gate, Lists, gateIn, outOfBounds}
+use Rattle.message.specs.Reading.{messageIn, readTests, readOf, refusedWith}
+use Rattle.basics.specs.Refusals.{firstOf, answered}
+use Rattle.gateway.specs.declared.state.Head.{Head}
+use Rattle.gateway_rules.specs.State.{Gate, outOfBounds}
+use Rattle.gateway.specs.State.{Lists, gateIn}
 use Rattle.gateway_rules.specs.Step.{Outcome, taking, refusing, step}
-use Rattle.gateway.specs.Answers.{seenOf}
 
 abbrev reading : Gate → ℕ → Reading → Outcome
 reading g q (Read m) = taking g q m
@@ -43,7 +43,13 @@ ports-missed : (head : Head) (t : Lists) (q : ℕ) → q < head .ports → leb (
 unfolding gateIn
 ports-missed head t q l = lt-leb (head .ports) q l
 
--- What the step gives once the bytes are known to read as r.
-pub step-at-reading : (head : Head) (t : Lists) (q : ℕ) (bytes : List ℕ) (r : Reading) → outOfBounds (gateIn head t) ≡ false → q < head .ports → readOf bytes ≡ r
-    → seenOf (reading (gateIn head t) q r) ≡ seenOf (step (gateIn head t) q bytes)
-step-at-reading head t q bytes r o l e = sym (ap seenOf (step-reads (gateIn head t) q bytes o (ports-missed head t q l) ∙ ap (reading (gateIn head t) q) e))
+-- What the step gives once it is known what the bytes read as.
+module _ (head : Head) (t : Lists) (q : ℕ) (bytes : List ℕ) (o : outOfBounds (gateIn head t) ≡ false) (l : q < head .ports) where
+  at-reading : (r : Reading) → readOf bytes ≡ r → step (gateIn head t) q bytes ≡ reading (gateIn head t) q r
+  at-reading r e = step-reads (gateIn head t) q bytes o (ports-missed head t q l) ∙ ap (reading (gateIn head t) q) e
+
+  pub step-takes : (m : Message) → readOf bytes ≡ Read m → step (gateIn head t) q bytes ≡ taking (gateIn head t) q m
+  step-takes m e = at-reading (Read m) e
+
+  pub step-refuses : {r : Reading} (n k : ℕ) → r ≡ readOf bytes → r ≡ Refused n → k ≡ refusedWith r → step (gateIn head t) q bytes ≡ refusing (gateIn head t) k
+  step-refuses n k e f h = at-reading (Refused n) (sym e ∙ f) ∙ ap (refusing (gateIn head t)) (sym (h ∙ ap refusedWith f))

@@ -1,67 +1,68 @@
--- The ports that want a message, by the event that is looked up.
+-- Who wants what is said: a report outside the automatic block is looked up, an automatic one and all else is wanted everywhere.
 use Prim.Native.Nat.{ℕ}
 use mathlib.Core.Path.{_≡_, refl, sym, ap, _∙_}
-use mathlib.Core.Bool.{Bool, true, false, cond, _||_}
+use mathlib.Core.Bool.{Bool, true, false, _||_}
 use Rattle.range.specs.declared.Block.{Block}
-use Rattle.range.specs.Range.{inBlock}
-use Rattle.sets.specs.Sets.{any, setOf, inSet}
-use Rattle.sets.proofs.Sets.{set-ext}
-use Rattle.message.specs.declared.Field.{Field}
-use Rattle.message.specs.declared.Field.the-variants.{Present, Absent}
-use Rattle.message.specs.declared.Message.{Message}
-use Rattle.message.specs.declared.Reading.{Reading}
-use Rattle.message.specs.declared.Reading.the-variants.{Read, Refused}
-use Rattle.message.specs.Mti.{isReport, kindOf}
-use Rattle.gateway_rules.specs.declared.Head.{Head}
-use Rattle.gateway_rules.specs.State.{Gate, Lists, gateIn}
-use Rattle.gateway_rules.specs.Step.{lineHolds, wants, wantsReport}
-use Rattle.gateway.specs.Answers.{linesIn, sortOf, unlessAutomatic, askedIn, wantedBy}
-use Rattle.gateway.proofs.Sends.{every, is-report, is-no-report}
+use Rattle.range.specs.declared.Answer.{Answer}
+use Rattle.range.specs.declared.Answer.the-variants.{Yes, No, NoBlock}
+use Rattle.range.specs.Range.{isBlock, inBlock}
+use Rattle.range.specs.Answer.{yesOrNo, holdsTold}
+use Rattle.range.proofs.Answer.{enum as answers}
+use Rattle.range.proofs.Laws.{answer-says}
+use Rattle.basics.specs.Lists.{any}
+use Rattle.basics.specs.Sets.{setOf, inSet}
+use Rattle.basics.proofs.Sets.{set-ext}
+use mathlib.Core.List.{[], _∷_}
+use denote.Enum.Declared.{tagOf, declared}
+use types.Run.{OneOf, miss}
+use Rattle.message.proofs.Saying.{enum as sayings}
+use Rattle.message.specs.declared.Saying.{Saying}
+use Rattle.message.specs.declared.Saying.the-variants.{Report, Announcement, Restart, Inquiry, InquiryForAll, Learn, Nothing}
+use Rattle.gateway_rules.specs.State.{Gate}
+use Rattle.gateway_rules.specs.Step.{lineHolds, wants, wantedAt}
+use Rattle.gateway.specs.declared.state.Head.{Head}
+use Rattle.gateway.specs.State.{Lists, linesIn, gateIn}
+use Rattle.gateway.specs.Answers.{holding, wantedBy}
 
--- ---- what is asked
+every : setOf 8 (λ _. true) ≡ 255
+unfolding setOf
+every = refl
 
-pub not-asked : (a : Block) (m : Message) → (sortOf (kindOf (m .mti)) ≡ 1 → ⊥) → Absent ≡ askedIn a (Read m)
-not-asked a m n = sym (ap (λ (y : Bool). cond y (unlessAutomatic a (m .event)) Absent) (is-no-report (kindOf (m .mti)) n))
+wanted-everywhere : (g : Gate) (s : Saying) → ((p : ℕ) → wantedAt g p s ≡ true) → 255 ≡ wantedBy g s
+wanted-everywhere g s h = sym every ∙ set-ext 8 (λ _. true) (λ p. wantedAt g p s) (λ p _. sym (h p))
 
-pub asked-of : (a : Block) (m : Message) (f : Field) → sortOf (kindOf (m .mti)) ≡ 1 → m .event ≡ f → unlessAutomatic a f ≡ askedIn a (Read m)
-asked-of a m f s e = sym (ap (λ (y : Bool). cond y (unlessAutomatic a (m .event)) Absent) (is-report (kindOf (m .mti)) s) ∙ ap (unlessAutomatic a) e)
-
-pub unless : (a : Block) (e : ℕ) (y : Bool) → inBlock a e ≡ y → cond y Absent (Present e) ≡ unlessAutomatic a (Present e)
-unless a e y h = sym (ap (λ (y : Bool). cond y Absent (Present e)) h)
-
--- ---- who wants it
-
--- An event that is looked up is wanted at the open ports and where a line holds it; what is not looked up, everywhere.
-abbrev wantsAsked : Gate → ℕ → Field → Bool
-wantsAsked g p (Present e) = g .marked p || any (lineHolds p e) (g .lines)
-wantsAsked g p Absent = true
-
-by-asked : (g : Gate) (p : ℕ) (report : Bool) (f : Field)
-    → wantsAsked g p (cond report (unlessAutomatic (g .automatic) f) Absent) ≡ cond report (wantsReport g p f) true
-unfolding wants
-by-asked g p false f = refl
-by-asked g p true Absent = refl
-by-asked g p true (Present e) = go (inBlock (g .automatic) e)
+-- What is no report is wanted everywhere.
+pub others-wanted : (g : Gate) (s : Saying) → OneOf (1 ∷ 2 ∷ 3 ∷ 4 ∷ 5 ∷ 6 ∷ []) (tagOf (declared sayings) s) → 255 ≡ wantedBy g s
+others-wanted g s other = wanted-everywhere g s (go s other)
   where
-    go : (y : Bool) → wantsAsked g p (cond y Absent (Present e)) ≡ (y || (g .marked p || any (lineHolds p e) (g .lines)))
-    go true = refl
-    go false = refl
+    go : (s : Saying) → OneOf (1 ∷ 2 ∷ 3 ∷ 4 ∷ 5 ∷ 6 ∷ []) (tagOf (declared sayings) s) → (p : ℕ) → wantedAt g p s ≡ true
+    go (Report e) k p = absurd (miss (1 ∷ 2 ∷ 3 ∷ 4 ∷ 5 ∷ 6 ∷ []) 0 tt k)
+    go (Announcement b) k p = refl
+    go Restart k p = refl
+    go (Inquiry role e) k p = refl
+    go (InquiryForAll destination) k p = refl
+    go (Learn e) k p = refl
+    go Nothing k p = refl
 
-asked-wanted : (g : Gate) (r : Reading) → setOf 8 (λ p. wantsAsked g p (askedIn (g .automatic) r)) ≡ wantedBy g r
-asked-wanted g (Refused n) = every
-asked-wanted g (Read m) =
-    set-ext 8 (λ p. wantsAsked g p (askedIn (g .automatic) (Read m))) (λ p. cond (isReport (kindOf (m .mti))) (wantsReport g p (m .event)) true)
-    (λ p _. by-asked g p (isReport (kindOf (m .mti))) (m .event))
+-- An answer that is not yes.
+pub not-yes : (b : Block) (e : ℕ) (r : Answer) → isBlock b ≡ true → yesOrNo r ≡ holdsTold b e → OneOf (1 ∷ 2 ∷ []) (tagOf (declared answers) r) → inBlock b e ≡ false
+not-yes b e r g h other = answer-says b e r r g h refl ∙ go r other
+  where
+    go : (r : Answer) → OneOf (1 ∷ 2 ∷ []) (tagOf (declared answers) r) → yesOrNo r .value ≡ false
+    go Yes k = absurd (miss (1 ∷ 2 ∷ []) 0 tt k)
+    go No k = refl
+    go NoBlock k = refl
 
-module _ (head : Head) (t : Lists) (r : Reading) where
-  by-field : (f : Field) → f ≡ askedIn (head .automatic) r → setOf 8 (λ p. wantsAsked (gateIn head t) p f) ≡ wantedBy (gateIn head t) r
-  unfolding gateIn
-  by-field f e = ap (λ (x : Field). setOf 8 (λ p. wantsAsked (gateIn head t) p x)) e ∙ asked-wanted (gateIn head t) r
+module _ (head : Head) (t : Lists) (s : Saying) (e : ℕ) (report : s ≡ Report e) where
+  by-automatic : {y : Bool} → inBlock (head .automatic) e ≡ y → (p : ℕ)
+      → wantedAt (gateIn head t) p s ≡ (y || (inSet (head .marks) p || any (lineHolds p e) (linesIn (head .count) t)))
+  unfolding gateIn wants
+  by-automatic a p = ap (wantedAt (gateIn head t) p) report ∙ ap (λ (y : Bool). y || (inSet (head .marks) p || any (lineHolds p e) (linesIn (head .count) t))) a
 
-  pub everywhere : Absent ≡ askedIn (head .automatic) r → 255 ≡ wantedBy (gateIn head t) r
-  everywhere e = sym every ∙ by-field Absent e
+  pub automatic-wanted : inBlock (head .automatic) e ≡ true → 255 ≡ wantedBy (gateIn head t) s
+  automatic-wanted a = wanted-everywhere (gateIn head t) s (by-automatic a)
 
-  pub where-held : (e : ℕ) → Present e ≡ askedIn (head .automatic) r
-      → setOf 8 (λ p. inSet (head .marks) p || any (lineHolds p e) (linesIn (head .count) t)) ≡ wantedBy (gateIn head t) r
-  unfolding gateIn
-  where-held e f = by-field (Present e) f
+  pub where-held : inBlock (head .automatic) e ≡ false
+      → holding (head .marks) e (linesIn (head .count) t) ≡ wantedBy (gateIn head t) s
+  where-held a =
+      set-ext 8 (λ p. inSet (head .marks) p || any (lineHolds p e) (linesIn (head .count) t)) (λ p. wantedAt (gateIn head t) p s) (λ p _. sym (by-automatic a p))

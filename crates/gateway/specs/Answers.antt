@@ -1,28 +1,27 @@
 -- What the code's answer says: the refusal, the set of ports as a number, and the state without the places past the count.
 use Prim.Native.Nat.{ℕ}
 use mathlib.Core.Path.{_≡_}
-use mathlib.Core.Bool.{Bool, true, cond, not, _&&_, _||_}
+use mathlib.Core.Bool.{Bool, true, cond, not, _||_}
 use mathlib.Core.List.{List}
-use lib.Dec.{eqb, leb, ltb}
-use lib.ListN.{length, set}
+use lib.Dec.{eqb}
+use lib.ListN.{length}
 use Rattle.range.specs.declared.Block.{Block}
-use Rattle.range.specs.Range.{isBlock, inBlock}
-use Rattle.message.specs.declared.Kind.{Kind}
-use Rattle.message.specs.declared.Kind.the-variants.{InitializationComplete, EventReport, IdentifyConsumer, IdentifyProducer, ConsumerIdentified, ProducerIdentified, ConsumerRangeIdentified, ProducerRangeIdentified, IdentifyEvents, LearnEvent, Other}
-use Rattle.message.specs.declared.Field.{Field}
-use Rattle.message.specs.declared.Field.the-variants.{Present, Absent}
+use Rattle.range.specs.Range.{isBlock}
+use Rattle.basics.specs.Lists.{any}
+use Rattle.basics.specs.Sets.{setOf, inSet}
 use Rattle.message.specs.declared.Reading.{Reading}
 use Rattle.message.specs.declared.Reading.the-variants.{Read, Refused}
-use Rattle.message.specs.Messages.{badNode}
-use Rattle.message.specs.Mti.{isReport, kindOf}
+use Rattle.message.specs.declared.Saying.{Saying}
+use Rattle.message.specs.declared.Saying.the-variants.{Announcement, Nothing}
+use Rattle.message.specs.Saying.{saidBy}
 use Rattle.gateway_rules.specs.declared.Line.{Line}
-use Rattle.gateway_rules.specs.declared.Gateway.{Gateway}
-use Rattle.gateway_rules.specs.declared.Head.{Head}
-use Rattle.gateway_rules.specs.State.{Gate, Lists, full, firstPlaces, lineAt, lists, gateIn, gateOf, badPorts, badAutomatic}
-use Rattle.sets.specs.Sets.{setOf, inSet, anyBelow}
-use Rattle.gateway_rules.specs.Step.{Outcome, wantsReport, refusing, step}
+use Rattle.gateway_rules.specs.State.{Gate, full}
+use Rattle.gateway_rules.specs.Step.{Outcome, lineHolds, wantedAt, refusing, step}
 use Rattle.gateway.specs.declared.Answer.{Answer}
 use Rattle.gateway.specs.declared.LentAnswer.{LentAnswer}
+use Rattle.gateway.specs.declared.state.Head.{Head}
+use Rattle.gateway.specs.declared.state.Gateway.{Gateway}
+use Rattle.gateway.specs.State.{Lists, gateIn, gateOf, headWith}
 
 pub record Seen : Type 0 where
   pub refusal : ℕ
@@ -42,10 +41,6 @@ refusalKeeps g a = (a .refusal ≡ 0 → ⊥) → a .gateway ≡ g
 
 -- ---- the same on lent lists
 
--- The head with other open marks and another line count: the rest of it never changes.
-abbrev pub headWith : Head → ℕ → ℕ → Head
-headWith h marks count = record { ports = h .ports; marks = marks; automatic = h .automatic; count = count }
-
 abbrev pub seenLent : Head → LentAnswer → Lists → Seen
 seenLent h a t = record { refusal = a .refusal; sent = a .sent; gate = gateIn (headWith h (a .marks) (a .count)) t }
 
@@ -62,55 +57,19 @@ lentRefusalKeeps h before a after = (a .refusal ≡ 0 → ⊥) → (a .marks ≡
 
 -- ---- what the parts of the code work on
 
--- The first n lines.
-abbrev pub linesIn : ℕ → Lists → List Line
-linesIn n t = firstPlaces n (lineAt t)
+-- What is said by bytes that were read; a refusal says nothing.
+abbrev pub saidIn : Reading → Saying
+saidIn (Read m) = saidBy m
+saidIn (Refused n) = Nothing
 
--- The lists with a line put at a place.
-abbrev pub putAt : ℕ → Line → Lists → Lists
-putAt i l t = lists (set (t .nodes) i (l .node)) (set (t .starts) i (l .block .start)) (set (t .ports) i (l .port)) (set (t .sizes) i (l .block .k))
+-- The ports that want what is said, as a number.
+abbrev pub wantedBy : Gate → Saying → ℕ
+wantedBy g s = setOf 8 (λ p. wantedAt g p s)
 
--- Lists of 256 places each.
-abbrev pub Whole : Lists → Type 0
-Whole t = (length (t .nodes) ≡ full) × (length (t .starts) ≡ full) × (length (t .ports) ≡ full) × (length (t .sizes) ≡ full)
+-- The ports of a set, and those that have a line that holds the event.
+abbrev pub holding : ℕ → ℕ → List Line → ℕ
+holding set e lines = setOf 8 (λ p. inSet set p || any (lineHolds p e) lines)
 
--- A line that is out of bounds, by the port count.
-abbrev pub badAt : ℕ → Line → Bool
-badAt ports l = leb ports (l .port) || (badNode (l .node) || not (isBlock (l .block)))
-
--- Out of bounds but for the lines.
-abbrev pub badHead : Head → Bool
-badHead h = badPorts (h .ports) || (ltb full (h .count) || (anyBelow 8 (λ p. leb (h .ports) p && inSet (h .marks) p) || badAutomatic (h .automatic)))
-
--- The event of a report that is to be looked up in the lines.
-abbrev pub unlessAutomatic : Block → Field → Field
-unlessAutomatic automatic (Present e) = cond (inBlock automatic e) Absent (Present e)
-unlessAutomatic automatic Absent = Absent
-
-abbrev pub askedIn : Block → Reading → Field
-askedIn automatic (Read m) = cond (isReport (kindOf (m .mti))) (unlessAutomatic automatic (m .event)) Absent
-askedIn automatic (Refused n) = Absent
-
--- The ports that want the message, as a number.
-abbrev pub wantedBy : Gate → Reading → ℕ
-wantedBy g (Read m) = setOf 8 (λ p. cond (isReport (kindOf (m .mti))) (wantsReport g p (m .event)) true)
-wantedBy g (Refused n) = 255
-
--- A refusal's number, 0 for a message.
-abbrev pub numberOf : Reading → ℕ
-numberOf (Read m) = 0
-numberOf (Refused n) = n
-
--- 1 for a report, 2 for a restart, 0 for any other message.
-abbrev pub sortOf : Kind → ℕ
-sortOf EventReport = 1
-sortOf InitializationComplete = 2
-sortOf IdentifyConsumer = 0
-sortOf IdentifyProducer = 0
-sortOf ConsumerIdentified = 0
-sortOf ProducerIdentified = 0
-sortOf ConsumerRangeIdentified = 0
-sortOf ProducerRangeIdentified = 0
-sortOf IdentifyEvents = 0
-sortOf LearnEvent = 0
-sortOf Other = 0
+-- What is announced is a block.
+abbrev pub AnnouncesBlock : Saying → Type 0
+AnnouncesBlock s = (b : Block) → s ≡ Announcement b → isBlock b ≡ true

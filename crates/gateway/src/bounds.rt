@@ -1,14 +1,14 @@
 // Whether a state is out of bounds.
 ghost use mathlib.Core.Path.{_≡_};
 ghost use Prim.Native.Nat.{_≤_, _<_};
-ghost use mathlib.Core.Bool.{_&&_};
-ghost use lib.Dec.{eqb, leb};
-ghost use Rattle.range.specs.Range.{bit};
-ghost use Rattle.sets.specs.Sets.{any, anyBelow};
-ghost use Rattle.gateway_rules.specs.State.{badPorts, badAutomatic, lists};
-ghost use Rattle.gateway.specs.Answers.{Whole, badAt, badHead, linesIn};
+ghost use mathlib.Core.Bool.{not};
+ghost use Rattle.range.specs.Range.{hasNumber};
+ghost use Rattle.basics.specs.Lists.{any};
+ghost use Rattle.basics.specs.Sets.{inSet};
+ghost use Rattle.gateway_rules.specs.State.{badPorts, badLine, strayMark};
+ghost use Rattle.gateway.specs.State.{Whole, badHead, linesIn, held, entered};
+use crate::Head;
 use crate::lines;
-use gateway_rules::Head;
 use gateway_rules::Line;
 use range::Block;
 
@@ -40,7 +40,7 @@ pub(crate) fn bad_ports(ports: u8) -> bool
 
 // An open mark on a port that isn't there.
 fn stray_mark(marks: u8, ports: u8) -> bool
-    ensures { λ yes. ⌜ yes ≡ anyBelow 8 (λ p. leb ports p && eqb (bit p marks) 1) ⌝ }
+    ensures { λ yes. ⌜ yes ≡ strayMark ports (inSet marks) ⌝ }
 {
     let mut p: u8 = 8;
     while 0 < p {
@@ -55,8 +55,9 @@ fn stray_mark(marks: u8, ports: u8) -> bool
     false
 }
 
+// A block that has no range number.
 fn bad_automatic(b: Block) -> bool
-    ensures { λ yes. ⌜ yes ≡ badAutomatic b ⌝ }
+    ensures { λ yes. ⌜ yes ≡ not (hasNumber b) ⌝ }
 {
     if b.k == 0 {
         return true;
@@ -73,8 +74,8 @@ pub(crate) fn bad_lines(
     below: u8,
 ) -> bool
     requires { ⌜ count ≤ 256 ⌝ }
-    requires { ⌜ Whole (lists (now nodes) (now starts) (now ports) (now sizes)) ⌝ }
-    ensures { λ yes. ⌜ yes ≡ any (badAt below) (linesIn count (lists (now (nodes .entry)) (now (starts .entry)) (now (ports .entry)) (now (sizes .entry)))) ⌝ }
+    requires { ⌜ Whole (held nodes starts ports sizes) ⌝ }
+    ensures { λ yes. ⌜ yes ≡ any (badLine below) (linesIn count (entered nodes starts ports sizes)) ⌝ }
 {
     let mut i = 0;
     while i < count {
@@ -88,7 +89,7 @@ pub(crate) fn bad_lines(
 }
 
 pub(crate) fn bad_line(l: Line, ports: u8) -> bool
-    ensures { λ yes. ⌜ yes ≡ badAt ports l ⌝ }
+    ensures { λ yes. ⌜ yes ≡ badLine ports l ⌝ }
 {
     let block = l.block;
     if ports <= l.port {

@@ -1,14 +1,15 @@
 // The box on lent lists: the lines stand in the caller's four lists of 256 places, and change there.
 ghost use mathlib.Core.Path.{_≡_};
-ghost use Rattle.gateway_rules.specs.State.{lists};
-ghost use Rattle.gateway.specs.Answers.{seenLent, seenOf, lentStep, lentRefusalKeeps, numberOf, badLengths};
+ghost use Rattle.gateway.specs.State.{entered, left};
+ghost use Rattle.gateway.specs.Answers.{seenLent, seenOf, lentStep, lentRefusalKeeps, saidIn, badLengths};
+use crate::Head;
 use crate::LentAnswer;
 use crate::bounds;
 use crate::pass;
 use crate::port_sets;
 use crate::step;
-use gateway_rules::Head;
 use message::Reading;
+use message::Saying;
 
 // A message at a port. A list that is not of 256 places is refusal 7. The bytes are read before the lines, so that one pass tests the lines and looks a report up.
 pub fn receive_lent(
@@ -20,8 +21,8 @@ pub fn receive_lent(
     port: u8,
     bytes: &[u8],
 ) -> LentAnswer
-    ensures { λ a. ⌜ seenLent head a (lists (now (nodes .exit)) (now (starts .exit)) (now (ports .exit)) (now (sizes .exit))) ≡ seenOf (lentStep head (lists (now (nodes .entry)) (now (starts .entry)) (now (ports .entry)) (now (sizes .entry))) port (now (bytes .entry))) ⌝ }
-    ensures { λ a. ⌜ lentRefusalKeeps head (lists (now (nodes .entry)) (now (starts .entry)) (now (ports .entry)) (now (sizes .entry))) a (lists (now (nodes .exit)) (now (starts .exit)) (now (ports .exit)) (now (sizes .exit))) ⌝ }
+    ensures { λ a. ⌜ seenLent head a (left nodes starts ports sizes) ≡ seenOf (lentStep head (entered nodes starts ports sizes) port (now (bytes .entry))) ⌝ }
+    ensures { λ a. ⌜ lentRefusalKeeps head (entered nodes starts ports sizes) a (left nodes starts ports sizes) ⌝ }
 {
     if bad_lengths(nodes.len(), starts.len(), ports.len(), sizes.len()) {
         return refused(head, 7);
@@ -30,7 +31,8 @@ pub fn receive_lent(
         return refused(head, 7);
     }
     let reading = message::read(bytes);
-    let passed = pass::over_lines(head, nodes, starts, ports, sizes, reading);
+    let saying = said_in(reading);
+    let passed = pass::over_lines(head, nodes, starts, ports, sizes, saying);
     if passed.bad {
         return refused(head, 7);
     }
@@ -38,10 +40,10 @@ pub fn receive_lent(
         return refused(head, 8);
     }
     let Reading::Read(m) = reading else {
-        return refused(head, number_in(reading));
+        return refused(head, message::refused_with(reading));
     };
     let sent = port_sets::others(passed.wanted, head.ports, port);
-    let left = step::taken(head, nodes, starts, ports, sizes, port, m);
+    let left = step::hear(head, nodes, starts, ports, sizes, port, m.source, saying);
     LentAnswer {
         refusal: 0,
         sent,
@@ -77,11 +79,12 @@ fn refused(head: Head, number: u8) -> LentAnswer
     }
 }
 
-fn number_in(reading: Reading) -> u8
-    ensures { λ n. ⌜ n ≡ numberOf reading ⌝ }
+// What is said by bytes that were read; a refusal says nothing.
+fn said_in(reading: Reading) -> Saying
+    ensures { λ s. ⌜ s ≡ saidIn reading ⌝ }
 {
-    match reading {
-        Reading::Read(_) => 0,
-        Reading::Refused(n) => n,
-    }
+    let Reading::Read(m) = reading else {
+        return Saying::Nothing;
+    };
+    message::said_by(m)
 }

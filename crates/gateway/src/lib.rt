@@ -4,15 +4,17 @@ mod lent;
 mod lines;
 mod pass;
 mod port_sets;
+mod state;
 mod step;
 
 ghost use mathlib.Core.Path.{_≡_};
-ghost use Rattle.gateway_rules.specs.State.{gateOf, startOf};
+ghost use Rattle.gateway_rules.specs.State.{startOf};
 ghost use Rattle.gateway_rules.specs.Step.{start as startedBy, step as stepOf};
+ghost use Rattle.gateway.specs.State.{gateOf};
 ghost use Rattle.gateway.specs.Answers.{seenIn, seenOf, refusalKeeps};
-use gateway_rules::Gateway;
-use gateway_rules::Head;
 pub use lent::receive_lent;
+pub use state::Gateway;
+pub use state::Head;
 
 // The refusal or 0, the set of ports it is sent to, bit p for port p, and the next state.
 #[repr(C)]

@@ -1,16 +1,19 @@
 // The lines of the table, which stand in four lists.
 ghost use mathlib.Core.Path.{_≡_};
+ghost use mathlib.Core.Bool.{true, false};
 ghost use Prim.Native.Nat.{_≤_, _<_};
-ghost use Rattle.gateway_rules.specs.State.{lineAt, lists};
-ghost use Rattle.gateway_rules.specs.Step.{sameLine, has as hasLine, ownedAt, without};
-ghost use Rattle.gateway.specs.Answers.{Whole, linesIn, putAt};
+ghost use Rattle.range.specs.Range.{isBlock};
+ghost use Rattle.gateway_rules.specs.Step.{sameLine, has as hasLine, ownedAt};
+ghost use Rattle.basics.specs.Lists.{any, without};
+ghost use Rattle.gateway.specs.State.{Whole, lineAt, linesIn, putAt, noBlock, held, entered, left};
 use gateway_rules::Line;
+use range::Answer;
 use range::Block;
 
 pub(crate) fn line_at(nodes: &[u64], starts: &[u64], ports: &[u8], sizes: &[u8], i: usize) -> Line
-    requires { ⌜ Whole (lists (now nodes) (now starts) (now ports) (now sizes)) ⌝ }
+    requires { ⌜ Whole (held nodes starts ports sizes) ⌝ }
     requires { ⌜ i < 256 ⌝ }
-    ensures { λ l. ⌜ l ≡ lineAt (lists (now (nodes .entry)) (now (starts .entry)) (now (ports .entry)) (now (sizes .entry))) i ⌝ }
+    ensures { λ l. ⌜ l ≡ lineAt (entered nodes starts ports sizes) i ⌝ }
 {
     Line {
         port: ports[i],
@@ -30,9 +33,9 @@ pub(crate) fn put_line(
     i: usize,
     l: Line,
 )
-    requires { ⌜ Whole (lists (now nodes) (now starts) (now ports) (now sizes)) ⌝ }
+    requires { ⌜ Whole (held nodes starts ports sizes) ⌝ }
     requires { ⌜ i < 256 ⌝ }
-    ensures { λ _. ⌜ lists (now (nodes .exit)) (now (starts .exit)) (now (ports .exit)) (now (sizes .exit)) ≡ putAt i l (lists (now (nodes .entry)) (now (starts .entry)) (now (ports .entry)) (now (sizes .entry))) ⌝ }
+    ensures { λ _. ⌜ left nodes starts ports sizes ≡ putAt i l (entered nodes starts ports sizes) ⌝ }
 {
     let block = l.block;
     nodes[i] = l.node;
@@ -51,8 +54,10 @@ pub(crate) fn has(
     l: Line,
 ) -> bool
     requires { ⌜ count ≤ 256 ⌝ }
-    requires { ⌜ Whole (lists (now nodes) (now starts) (now ports) (now sizes)) ⌝ }
-    ensures { λ yes. ⌜ yes ≡ hasLine (linesIn count (lists (now (nodes .entry)) (now (starts .entry)) (now (ports .entry)) (now (sizes .entry)))) l ⌝ }
+    requires { ⌜ Whole (held nodes starts ports sizes) ⌝ }
+    requires { ⌜ isBlock (l .block) ≡ true ⌝ }
+    requires { ⌜ any noBlock (linesIn count (held nodes starts ports sizes)) ≡ false ⌝ }
+    ensures { λ yes. ⌜ yes ≡ hasLine (linesIn count (entered nodes starts ports sizes)) l ⌝ }
 {
     let mut i = 0;
     while i < count {
@@ -66,6 +71,7 @@ pub(crate) fn has(
 }
 
 fn same_line(a: Line, b: Line) -> bool
+    requires { ⌜ (isBlock (a .block) ≡ true) × (isBlock (b .block) ≡ true) ⌝ }
     ensures { λ yes. ⌜ yes ≡ sameLine a b ⌝ }
 {
     let x = a.block;
@@ -76,10 +82,11 @@ fn same_line(a: Line, b: Line) -> bool
     if a.node != b.node {
         return false;
     }
-    if x.start != y.start {
-        return false;
+    match range::same(x, y) {
+        Answer::Yes => true,
+        Answer::No => false,
+        Answer::NoBlock => false,
     }
-    x.k == y.k
 }
 
 // Takes a node's lines at a port out, and answers how many stay: one pass, the rest keeping their order.
@@ -93,8 +100,8 @@ pub(crate) fn without_owned(
     node: u64,
 ) -> usize
     requires { ⌜ count ≤ 256 ⌝ }
-    requires { ⌜ Whole (lists (now nodes) (now starts) (now ports) (now sizes)) ⌝ }
-    ensures { λ kept. ⌜ linesIn kept (lists (now (nodes .exit)) (now (starts .exit)) (now (ports .exit)) (now (sizes .exit))) ≡ without (ownedAt port node) (linesIn count (lists (now (nodes .entry)) (now (starts .entry)) (now (ports .entry)) (now (sizes .entry)))) ⌝ }
+    requires { ⌜ Whole (held nodes starts ports sizes) ⌝ }
+    ensures { λ kept. ⌜ linesIn kept (left nodes starts ports sizes) ≡ without (ownedAt port node) (linesIn count (entered nodes starts ports sizes)) ⌝ }
 {
     let mut i = 0;
     let mut j = 0;

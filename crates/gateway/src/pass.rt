@@ -1,22 +1,21 @@
 // One pass over the lines: whether one is out of bounds, and which ports a message is wanted at.
 ghost use mathlib.Core.Path.{_≡_};
 ghost use mathlib.Core.Bool.{true, false, _||_};
-ghost use Prim.Native.Nat.{_≤_};
+ghost use Prim.Native.Nat.{_≤_, _<_};
 ghost use Rattle.range.specs.Range.{isBlock};
-ghost use Rattle.sets.specs.Sets.{any, setOf, inSet};
-ghost use Rattle.gateway_rules.specs.State.{gateIn, lists, outOfBounds};
+ghost use Rattle.basics.specs.Lists.{any};
+ghost use Rattle.basics.specs.Sets.{setOf, inSet};
+ghost use Rattle.gateway_rules.specs.State.{badLine, outOfBounds};
 ghost use Rattle.gateway_rules.specs.Step.{lineHolds};
-ghost use Rattle.gateway.specs.Answers.{Whole, badAt, badHead, linesIn, askedIn, wantedBy};
+ghost use Rattle.gateway.specs.State.{Whole, badHead, linesIn, gateIn, held, entered};
+ghost use Rattle.gateway.specs.Answers.{holding, wantedBy};
+use crate::Head;
 use crate::bounds;
 use crate::lines;
 use crate::port_sets;
-use crate::step;
-use gateway_rules::Head;
 use gateway_rules::Line;
-use message::Field;
-use message::Reading;
+use message::Saying;
 use range::Answer;
-use range::Block;
 
 const EVERY: u8 = 255;
 
@@ -25,23 +24,26 @@ pub(crate) struct Passed {
     pub(crate) wanted: u8,
 }
 
-// A line that is out of bounds ends the pass.
+// A line that is out of bounds ends the pass. Only the event of a report that is not automatic is looked up.
 pub(crate) fn over_lines(
     head: Head,
     nodes: &[u64],
     starts: &[u64],
     ports: &[u8],
     sizes: &[u8],
-    reading: Reading,
+    saying: Saying,
 ) -> Passed
-    requires { ⌜ Whole (lists (now nodes) (now starts) (now ports) (now sizes)) ⌝ }
+    requires { ⌜ Whole (held nodes starts ports sizes) ⌝ }
     requires { ⌜ badHead head ≡ false ⌝ }
-    ensures { λ r. ⌜ r .bad ≡ outOfBounds (gateIn head (lists (now (nodes .entry)) (now (starts .entry)) (now (ports .entry)) (now (sizes .entry)))) ⌝ }
-    ensures { λ r. ⌜ (r .bad ≡ false → r .wanted ≡ wantedBy (gateIn head (lists (now (nodes .entry)) (now (starts .entry)) (now (ports .entry)) (now (sizes .entry)))) reading) ⌝ }
+    ensures { λ r. ⌜ r .bad ≡ outOfBounds (gateIn head (entered nodes starts ports sizes)) ⌝ }
+    ensures { λ r. ⌜ (r .bad ≡ false → r .wanted ≡ wantedBy (gateIn head (entered nodes starts ports sizes)) saying) ⌝ }
 {
     let automatic = head.automatic;
-    match asked(automatic, reading) {
-        Field::Present(e) => looked_up(
+    let Saying::Report(e) = saying else {
+        return everywhere(head.count, nodes, starts, ports, sizes, head.ports);
+    };
+    let Answer::Yes = range::holds(automatic, e) else {
+        return looked_up(
             head.count,
             nodes,
             starts,
@@ -50,35 +52,26 @@ pub(crate) fn over_lines(
             head.ports,
             e,
             head.marks,
-        ),
-        Field::Absent => Passed {
-            bad: bounds::bad_lines(head.count, nodes, starts, ports, sizes, head.ports),
-            wanted: EVERY,
-        },
-    }
+        );
+    };
+    everywhere(head.count, nodes, starts, ports, sizes, head.ports)
 }
 
-// The event that is to be looked up: a report's, if it is not automatic.
-fn asked(automatic: Block, reading: Reading) -> Field
-    requires { ⌜ isBlock automatic ≡ true ⌝ }
-    ensures { λ f. ⌜ f ≡ askedIn automatic reading ⌝ }
+fn everywhere(
+    count: usize,
+    nodes: &[u64],
+    starts: &[u64],
+    ports: &[u8],
+    sizes: &[u8],
+    below: u8,
+) -> Passed
+    requires { ⌜ count ≤ 256 ⌝ }
+    requires { ⌜ Whole (held nodes starts ports sizes) ⌝ }
+    ensures { λ r. ⌜ (r .bad ≡ any (badLine below) (linesIn count (entered nodes starts ports sizes))) × (r .wanted ≡ 255) ⌝ }
 {
-    let Reading::Read(m) = reading else {
-        return Field::Absent;
-    };
-    let meaning = message::meaning_of(m.mti);
-    let kind = meaning.kind;
-    let event = m.event;
-    if step::sort_of(kind) != 1 {
-        return Field::Absent;
-    }
-    let Field::Present(e) = event else {
-        return Field::Absent;
-    };
-    match range::holds(automatic, e) {
-        Answer::Yes => Field::Absent,
-        Answer::No => Field::Present(e),
-        Answer::NoBlock => Field::Present(e),
+    Passed {
+        bad: bounds::bad_lines(count, nodes, starts, ports, sizes, below),
+        wanted: EVERY,
     }
 }
 
@@ -94,9 +87,9 @@ fn looked_up(
     set: u8,
 ) -> Passed
     requires { ⌜ (count ≤ 256) × (below ≤ 8) ⌝ }
-    requires { ⌜ Whole (lists (now nodes) (now starts) (now ports) (now sizes)) ⌝ }
-    ensures { λ r. ⌜ r .bad ≡ any (badAt below) (linesIn count (lists (now (nodes .entry)) (now (starts .entry)) (now (ports .entry)) (now (sizes .entry)))) ⌝ }
-    ensures { λ r. ⌜ (r .bad ≡ false → r .wanted ≡ setOf 8 (λ p. inSet set p || any (lineHolds p e) (linesIn count (lists (now (nodes .entry)) (now (starts .entry)) (now (ports .entry)) (now (sizes .entry)))))) ⌝ }
+    requires { ⌜ Whole (held nodes starts ports sizes) ⌝ }
+    ensures { λ r. ⌜ r .bad ≡ any (badLine below) (linesIn count (entered nodes starts ports sizes)) ⌝ }
+    ensures { λ r. ⌜ (r .bad ≡ false → r .wanted ≡ holding set e (linesIn count (entered nodes starts ports sizes))) ⌝ }
 {
     let mut wanted = set;
     let mut place = 0;
@@ -112,7 +105,7 @@ fn looked_up(
 }
 
 fn held_by(set: u8, l: Line, e: u64) -> u8
-    requires { ⌜ badAt 8 l ≡ false ⌝ }
+    requires { ⌜ (l .port < 8) × (isBlock (l .block) ≡ true) ⌝ }
     ensures { λ r. ⌜ r ≡ setOf 8 (λ p. inSet set p || lineHolds p e l) ⌝ }
 {
     let block = l.block;

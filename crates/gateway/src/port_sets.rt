@@ -3,7 +3,7 @@ ghost use mathlib.Core.Path.{_≡_};
 ghost use mathlib.Core.Bool.{not, cond, _&&_, _||_};
 ghost use Prim.Native.Nat.{_+_, _<_, _^_};
 ghost use lib.Dec.{eqb, ltb};
-ghost use Rattle.sets.specs.Sets.{setOf, inSet};
+ghost use Rattle.basics.specs.Sets.{setOf, inSet};
 
 // A set with a port put in.
 pub(crate) fn with_port(set: u8, port: u8) -> u8

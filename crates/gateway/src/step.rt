@@ -1,17 +1,17 @@
 // What an accepted message changes.
 ghost use mathlib.Core.Path.{_≡_};
-ghost use mathlib.Core.Bool.{false};
+ghost use mathlib.Core.Bool.{true, false};
 ghost use Prim.Native.Nat.{_<_};
-ghost use Rattle.gateway_rules.specs.State.{gateIn, lists, outOfBounds};
-ghost use Rattle.gateway_rules.specs.Step.{announce as announceTo, hear as hearAt, restart as restartOf, taken as takenBy};
-ghost use Rattle.gateway.specs.Answers.{Whole, headWith, sortOf};
+ghost use Rattle.range.specs.Range.{isBlock};
+ghost use Rattle.gateway_rules.specs.State.{outOfBounds};
+ghost use Rattle.gateway_rules.specs.Step.{announce as announceTo, hear as hearAt, restart as restartOf};
+ghost use Rattle.gateway.specs.State.{Whole, gateIn, gateAfter, held, entered, left};
+ghost use Rattle.gateway.specs.Answers.{AnnouncesBlock};
+use crate::Head;
 use crate::lines;
 use crate::port_sets;
-use gateway_rules::Head;
 use gateway_rules::Line;
-use message::Announcement;
-use message::Kind;
-use message::Message;
+use message::Saying;
 
 // What is left of the head: the rest of it never changes.
 pub(crate) struct Left {
@@ -19,63 +19,8 @@ pub(crate) struct Left {
     pub(crate) count: usize,
 }
 
-// The state after it. A report changes nothing, so its way is the short one.
-pub(crate) fn taken(
-    head: Head,
-    nodes: &mut [u64],
-    starts: &mut [u64],
-    ports: &mut [u8],
-    sizes: &mut [u8],
-    port: u8,
-    m: Message,
-) -> Left
-    requires { ⌜ Whole (lists (now nodes) (now starts) (now ports) (now sizes)) ⌝ }
-    requires { ⌜ outOfBounds (gateIn head (lists (now nodes) (now starts) (now ports) (now sizes))) ≡ false ⌝ }
-    requires { ⌜ port < head .ports ⌝ }
-    ensures { λ r. ⌜ gateIn (headWith head (r .marks) (r .count)) (lists (now (nodes .exit)) (now (starts .exit)) (now (ports .exit)) (now (sizes .exit))) ≡ takenBy (gateIn head (lists (now (nodes .entry)) (now (starts .entry)) (now (ports .entry)) (now (sizes .entry)))) port m ⌝ }
-{
-    let meaning = message::meaning_of(m.mti);
-    let kind = meaning.kind;
-    let sort = sort_of(kind);
-    if sort == 1 {
-        return unchanged(head);
-    }
-    if sort == 2 {
-        return restart(head, nodes, starts, ports, sizes, port, m.source);
-    }
-    let announcement = message::announcement_of(m);
-    hear(
-        head,
-        nodes,
-        starts,
-        ports,
-        sizes,
-        port,
-        m.source,
-        announcement,
-    )
-}
-
-// 1 for a report, 2 for a restart, 0 for any other message.
-pub(crate) fn sort_of(kind: Kind) -> u8
-    ensures { λ s. ⌜ s ≡ sortOf kind ⌝ }
-{
-    match kind {
-        Kind::EventReport => 1,
-        Kind::InitializationComplete => 2,
-        Kind::IdentifyConsumer => 0,
-        Kind::IdentifyProducer => 0,
-        Kind::ConsumerIdentified => 0,
-        Kind::ProducerIdentified => 0,
-        Kind::ConsumerRangeIdentified => 0,
-        Kind::ProducerRangeIdentified => 0,
-        Kind::IdentifyEvents => 0,
-        Kind::LearnEvent => 0,
-        Kind::Other => 0,
-    }
-}
-
-fn restart(
+// The state after it. Most messages change nothing.
+pub(crate) fn hear(
     head: Head,
     nodes: &mut [u64],
     starts: &mut [u64],
@@ -83,32 +28,17 @@ fn restart(
     sizes: &mut [u8],
     port: u8,
     node: u64,
+    saying: Saying,
 ) -> Left
-    requires { ⌜ Whole (lists (now nodes) (now starts) (now ports) (now sizes)) ⌝ }
-    requires { ⌜ outOfBounds (gateIn head (lists (now nodes) (now starts) (now ports) (now sizes))) ≡ false ⌝ }
-    ensures { λ r. ⌜ gateIn (headWith head (r .marks) (r .count)) (lists (now (nodes .exit)) (now (starts .exit)) (now (ports .exit)) (now (sizes .exit))) ≡ restartOf (gateIn head (lists (now (nodes .entry)) (now (starts .entry)) (now (ports .entry)) (now (sizes .entry)))) port node ⌝ }
+    requires { ⌜ Whole (held nodes starts ports sizes) ⌝ }
+    requires { ⌜ outOfBounds (gateIn head (held nodes starts ports sizes)) ≡ false ⌝ }
+    requires { ⌜ (port < head .ports) × AnnouncesBlock saying ⌝ }
+    ensures { λ r. ⌜ gateAfter head r (left nodes starts ports sizes) ≡ hearAt (gateIn head (entered nodes starts ports sizes)) port node saying ⌝ }
 {
-    let marks = head.marks;
-    let count = lines::without_owned(head.count, nodes, starts, ports, sizes, port, node);
-    Left { marks, count }
-}
-
-fn hear(
-    head: Head,
-    nodes: &mut [u64],
-    starts: &mut [u64],
-    ports: &mut [u8],
-    sizes: &mut [u8],
-    port: u8,
-    node: u64,
-    announcement: Announcement,
-) -> Left
-    requires { ⌜ Whole (lists (now nodes) (now starts) (now ports) (now sizes)) ⌝ }
-    requires { ⌜ outOfBounds (gateIn head (lists (now nodes) (now starts) (now ports) (now sizes))) ≡ false ⌝ }
-    requires { ⌜ port < head .ports ⌝ }
-    ensures { λ r. ⌜ gateIn (headWith head (r .marks) (r .count)) (lists (now (nodes .exit)) (now (starts .exit)) (now (ports .exit)) (now (sizes .exit))) ≡ hearAt (gateIn head (lists (now (nodes .entry)) (now (starts .entry)) (now (ports .entry)) (now (sizes .entry)))) port node announcement ⌝ }
-{
-    let Announcement::Of(block) = announcement else {
+    if let Saying::Restart = saying {
+        return restart(head, nodes, starts, ports, sizes, port, node);
+    }
+    let Saying::Announcement(block) = saying else {
         return unchanged(head);
     };
     announce(
@@ -121,6 +51,24 @@ fn hear(
     )
 }
 
+fn restart(
+    head: Head,
+    nodes: &mut [u64],
+    starts: &mut [u64],
+    ports: &mut [u8],
+    sizes: &mut [u8],
+    port: u8,
+    node: u64,
+) -> Left
+    requires { ⌜ Whole (held nodes starts ports sizes) ⌝ }
+    requires { ⌜ outOfBounds (gateIn head (held nodes starts ports sizes)) ≡ false ⌝ }
+    ensures { λ r. ⌜ gateAfter head r (left nodes starts ports sizes) ≡ restartOf (gateIn head (entered nodes starts ports sizes)) port node ⌝ }
+{
+    let marks = head.marks;
+    let count = lines::without_owned(head.count, nodes, starts, ports, sizes, port, node);
+    Left { marks, count }
+}
+
 fn announce(
     head: Head,
     nodes: &mut [u64],
@@ -129,10 +77,10 @@ fn announce(
     sizes: &mut [u8],
     l: Line,
 ) -> Left
-    requires { ⌜ Whole (lists (now nodes) (now starts) (now ports) (now sizes)) ⌝ }
-    requires { ⌜ outOfBounds (gateIn head (lists (now nodes) (now starts) (now ports) (now sizes))) ≡ false ⌝ }
-    requires { ⌜ l .port < head .ports ⌝ }
-    ensures { λ r. ⌜ gateIn (headWith head (r .marks) (r .count)) (lists (now (nodes .exit)) (now (starts .exit)) (now (ports .exit)) (now (sizes .exit))) ≡ announceTo (gateIn head (lists (now (nodes .entry)) (now (starts .entry)) (now (ports .entry)) (now (sizes .entry)))) l ⌝ }
+    requires { ⌜ Whole (held nodes starts ports sizes) ⌝ }
+    requires { ⌜ outOfBounds (gateIn head (held nodes starts ports sizes)) ≡ false ⌝ }
+    requires { ⌜ (l .port < head .ports) × (isBlock (l .block) ≡ true) ⌝ }
+    ensures { λ r. ⌜ gateAfter head r (left nodes starts ports sizes) ≡ announceTo (gateIn head (entered nodes starts ports sizes)) l ⌝ }
 {
     let count = head.count;
     if lines::has(count, nodes, starts, ports, sizes, l) {

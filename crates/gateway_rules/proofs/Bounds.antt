@@ -2,31 +2,26 @@
 use Prim.Native.Nat.{ℕ, zero, suc, _≤_, _<_, zero-le}
 use mathlib.Core.Path.{_≡_, refl, sym, ap, ap₂, _∙_, subst}
 use mathlib.Core.Logic.{⊎-elim}
-use mathlib.Core.Bool.{Bool, true, false, not, _&&_, _||_, and-false, false≢true}
+use mathlib.Core.Bool.{Bool, true, false, _&&_, _||_, and-false, false≢true}
 use mathlib.Core.List.{[], _∷_}
 use native.Mathlib.Nat.{le-trans}
 use native.Mathlib.Omega.{arith}
-use borrow.Author.Tests.{eqb-true, le-ltb, lt-leb, ne-eqb}
+use borrow.Author.Tests.{eqb-true, le-ltb, lt-leb}
 use lib.Dec.{eqb, leb}
 use lib.ListN.{length, length-append}
 use Rattle.range.specs.declared.Block.{Block}
-use Rattle.range.specs.Range.{isBlock, run, single, blockOf}
-use Rattle.range.proofs.Laws.{single-block, block-of-block}
-use Rattle.range.proofs.Runs.{run-pos}
-use Rattle.message.specs.declared.Kind.{Kind}
-use Rattle.message.specs.declared.Kind.the-variants.{InitializationComplete, EventReport, IdentifyConsumer, IdentifyProducer, ConsumerIdentified, ProducerIdentified, ConsumerRangeIdentified, ProducerRangeIdentified, IdentifyEvents, LearnEvent, Other}
-use Rattle.message.specs.declared.Field.{Field}
-use Rattle.message.specs.declared.Field.the-variants.{Present, Absent}
+use Rattle.range.specs.Range.{hasNumber}
+use Rattle.range.proofs.RoundTrips.{block-of-numbered}
 use Rattle.message.specs.declared.Message.{Message}
-use Rattle.message.specs.declared.Announcement.the-variants.{Of, Nothing}
-use Rattle.message.specs.Mti.{kindOf}
 use Rattle.message.specs.Messages.{badNode}
-use Rattle.message.specs.Announcing.{announced, announcementOf}
-use Rattle.sets.specs.Sets.{any, anyBelow}
-use Rattle.gateway_rules.specs.State.{Gate, full, badPorts, badLine, badAutomatic, outOfBounds, startOf}
+use Rattle.message.specs.declared.Saying.the-variants.{Announcement}
+use Rattle.message.specs.Saying.{saidBy}
+use Rattle.basics.specs.Lists.{any}
+use Rattle.basics.specs.Sets.{anyBelow}
+use Rattle.gateway_rules.specs.State.{Gate, full, badPorts, badLine, outOfBounds, startOf}
 use Rattle.gateway_rules.specs.Step.{line, ownedAt, taken}
-use Rattle.sets.proofs.Sets.{any-append}
-use Rattle.gateway_rules.proofs.Lists.{length-without, without-none}
+use Rattle.basics.proofs.Lists.{any-append, length-without, without-none}
+use Rattle.gateway_rules.proofs.Said.{announcement-block}
 use Rattle.gateway_rules.proofs.Changes.{Change, change-of}
 use Rattle.gateway_rules.proofs.Changes.Change.{restarted, known, added, opened, passed}
 use Rattle.gateway_rules.proofs.Holding.{either-true, true-or-false}
@@ -34,9 +29,9 @@ use Rattle.gateway_rules.proofs.Holding.{either-true, true-or-false}
 pub record Bounded (g : Gate) : Type 0 where
   pub ports-ok : badPorts (g .ports) ≡ false
   pub few : length (g .lines) ≤ full
-  pub lines-ok : any (badLine g) (g .lines) ≡ false
+  pub lines-ok : any (badLine (g .ports)) (g .lines) ≡ false
   pub marks-ok : (p : ℕ) → g .marked p ≡ true → p < g .ports
-  pub automatic-ok : badAutomatic (g .automatic) ≡ false
+  pub automatic-ok : hasNumber (g .automatic) ≡ true
 
 any-below-none : (n : ℕ) (test : ℕ → Bool) → ((p : ℕ) → test p ≡ false) → anyBelow n test ≡ false
 any-below-none zero test h = refl
@@ -47,9 +42,9 @@ unfolding outOfBounds
 bounded-in g b = rw (
   b .ports-ok,
   le-ltb full (length (g .lines)) (b .few),
-  b .lines-ok,
   any-below-none 8 (λ p. leb (g .ports) p && g .marked p) stray,
   b .automatic-ok,
+  b .lines-ok,
 )
   where
     stray : (p : ℕ) → (leb (g .ports) p && g .marked p) ≡ false
@@ -58,33 +53,6 @@ bounded-in g b = rw (
         (λ t. ap (λ (x : Bool). leb (g .ports) p && x) t ∙ and-false (leb (g .ports) p))
         (true-or-false (g .marked p))
 
--- ---- what is announced is a block
-
-of-once : (x y : Block) → Of x ≡ Of y → x ≡ y
-of-once x y p = cc
-
-never : (b : Block) → Nothing ≡ Of b → isBlock b ≡ true
-never b p = let z : _≡_ {A = ℕ} 0 1 = cc in absurd (omega arith)
-
-announced-block : (k : Kind) (f : Field) (b : Block) → announced k f ≡ Of b → isBlock b ≡ true
-announced-block ConsumerIdentified (Present e) b p = ap isBlock (of-once b (single e) (sym p)) ∙ single-block e
-announced-block ConsumerIdentified Absent b p = never b p
-announced-block ConsumerRangeIdentified (Present r) b p = ap isBlock (of-once b (blockOf r) (sym p)) ∙ block-of-block r
-announced-block ConsumerRangeIdentified Absent b p = never b p
-announced-block InitializationComplete f b p = never b p
-announced-block EventReport f b p = never b p
-announced-block IdentifyConsumer f b p = never b p
-announced-block IdentifyProducer f b p = never b p
-announced-block ProducerIdentified f b p = never b p
-announced-block ProducerRangeIdentified f b p = never b p
-announced-block IdentifyEvents f b p = never b p
-announced-block LearnEvent f b p = never b p
-announced-block Other f b p = never b p
-
-pub announcement-block : (m : Message) (b : Block) → announcementOf m ≡ Of b → isBlock b ≡ true
-unfolding announcementOf
-announcement-block m b e = announced-block (kindOf (m .mti)) (m .event) b e
-
 -- ---- one message later
 
 pub same-box : {g g′ : Gate} {q : ℕ} {m : Message} → Change g q m g′ → (g′ .ports ≡ g .ports) × (g′ .automatic ≡ g .automatic)
@@ -92,14 +60,14 @@ same-box (restarted e) = (refl, refl)
 same-box (known b e t) = (refl, refl)
 same-box (added b e f room) = (refl, refl)
 same-box (opened b e f most) = (refl, refl)
-same-box (passed k e) = (refl, refl)
+same-box (passed e) = (refl, refl)
 
 module _ (g : Gate) (q : ℕ) (m : Message) (i : Bounded g) (port : q < g .ports) (node : badNode (m .source) ≡ false) where
   bounded-change : {g′ : Gate} → Change g q m g′ → Bounded g′
   bounded-change (restarted e) = record {
     ports-ok = i .ports-ok;
     few = le-trans (length-without (ownedAt q (m .source)) (g .lines)) (i .few);
-    lines-ok = without-none (badLine g) (ownedAt q (m .source)) (g .lines) (i .lines-ok);
+    lines-ok = without-none (badLine (g .ports)) (ownedAt q (m .source)) (g .lines) (i .lines-ok);
     marks-ok = i .marks-ok;
     automatic-ok = i .automatic-ok;
   }
@@ -107,13 +75,13 @@ module _ (g : Gate) (q : ℕ) (m : Message) (i : Bounded g) (port : q < g .ports
   bounded-change (added b e f room) = record {
     ports-ok = i .ports-ok;
     few = omega (arith, length-append (g .lines) (line q (m .source) b ∷ []), room);
-    lines-ok = any-append (badLine g) (g .lines) (line q (m .source) b ∷ [])
+    lines-ok = any-append (badLine (g .ports)) (g .lines) (line q (m .source) b ∷ [])
         ∙ ap₂ (λ (x y : Bool). x || y) (i .lines-ok) (good b e);
     marks-ok = i .marks-ok;
     automatic-ok = i .automatic-ok;
   }
     where
-      good : (b : Block) → announcementOf m ≡ Of b → any (badLine g) (line q (m .source) b ∷ []) ≡ false
+      good : (b : Block) → saidBy m ≡ Announcement b → any (badLine (g .ports)) (line q (m .source) b ∷ []) ≡ false
       good b e = rw (lt-leb (g .ports) q port, node, announcement-block m b e)
   bounded-change (opened b e f most) = record {
     ports-ok = i .ports-ok;
@@ -122,7 +90,7 @@ module _ (g : Gate) (q : ℕ) (m : Message) (i : Bounded g) (port : q < g .ports
     marks-ok = λ p t. ⊎-elim (λ u. subst (λ (x : ℕ). x < g .ports) (sym (eqb-true p q u)) port) (i .marks-ok p) (either-true (eqb p q) (g .marked p) t);
     automatic-ok = i .automatic-ok;
   }
-  bounded-change (passed k e) = i
+  bounded-change (passed e) = i
 
   pub bounded-taken : Bounded (taken g q m)
   bounded-taken = bounded-change (change-of g q m)
@@ -130,13 +98,10 @@ module _ (g : Gate) (q : ℕ) (m : Message) (i : Bounded g) (port : q < g .ports
 -- ---- the start
 
 pub bounded-start : (ports r : ℕ) → badPorts ports ≡ false → Bounded (startOf ports r)
-unfolding blockOf
-bounded-start ports r e =
-    let some : run r ≡ 0 → ⊥ = λ z. omega (arith, run-pos r, z) in
-    record {
-      ports-ok = e;
-      few = zero-le;
-      lines-ok = refl;
-      marks-ok = λ p t. absurd (false≢true t);
-      automatic-ok = rw (ne-eqb (run r) 0 some) (ap not (block-of-block r));
-    }
+bounded-start ports r e = record {
+  ports-ok = e;
+  few = zero-le;
+  lines-ok = refl;
+  marks-ok = λ p t. absurd (false≢true t);
+  automatic-ok = block-of-numbered r;
+}

@@ -10,58 +10,57 @@ use borrow.Author.Tests.{lt-ltb, ne-eqb, eqb-true, eq-eqb}
 use lib.Dec.{eqb}
 use Rattle.range.specs.declared.Block.{Block}
 use Rattle.range.specs.Range.{inBlock}
-use Rattle.range.proofs.Laws.{both}
+use Rattle.basics.proofs.Bools.{both, neither}
 use Rattle.message.specs.declared.Message.{Message}
 use Rattle.message.specs.Reading.{messageIn}
-use Rattle.message.specs.Refusals.{firstOf, answered}
-use Rattle.message.proofs.Writings.{neither}
-use Rattle.sets.specs.Sets.{any}
+use Rattle.basics.specs.Refusals.{firstOf, answered}
+use Rattle.basics.specs.Lists.{any}
 use Rattle.gateway_rules.specs.State.{Gate, badPorts, startOf}
-use Rattle.gateway_rules.specs.Step.{line, lineHolds, wants, wantsReport, goesTo, taking, refusing, stepTests, Outcome, step, start}
-use Rattle.gateway_rules.specs.History.{Entry, after, Heard, accepted, told, Live, Opened, Reports, HeldBack}
+use Rattle.gateway_rules.specs.Step.{line, lineHolds, wants, wantedAt, goesTo, taking, refusing, stepTests, Outcome, step, start}
+use Rattle.gateway_rules.specs.History.{Entry, after, Heard, accepted, leftBy, Live, Opened, Reports, HeldBack}
 use Rattle.gateway_rules.proofs.Lists.{has-any, any-has}
 use Rattle.gateway_rules.proofs.Holding.{Holds, holds-always, true-or-false}
 use Rattle.gateway_rules.proofs.Bounds.{bounded-start}
-use Rattle.gateway_rules.proofs.Hearing.{told-box, history-told}
+use Rattle.gateway_rules.proofs.Hearing.{left-box, history-left}
 
 -- ---- over accepted messages
 
 module _ (g : Gate) (empty : g .lines ≡ []) (closed : (p : ℕ) → g .marked p ≡ false) (h : List Heard) (p e : ℕ) where
-  holds : Holds g (told g h) h
+  holds : Holds g (leftBy g h) h
   holds = holds-always g empty closed h
 
-  unwanted : HeldBack g h p e → wants (told g h) p e ≡ false
+  unwanted : HeldBack g h p e → wants (leftBy g h) p e ≡ false
   unfolding wants
   unwanted k = ap₂ (λ (x y : Bool). x || y) automatic (ap₂ (λ (x y : Bool). x || y) mark lines)
     where
-      automatic : inBlock (told g h .automatic) e ≡ false
-      automatic = ap (λ (x : Block). inBlock x e) (told-box g h .1) ∙ k .not-automatic
+      automatic : inBlock (leftBy g h .automatic) e ≡ false
+      automatic = ap (λ (x : Block). inBlock x e) (left-box g h .1) ∙ k .not-automatic
 
-      mark : told g h .marked p ≡ false
-      mark = ⊎-elim (λ t. absurd (k .not-opened (holds .marks-opened p t))) (λ t. t) (true-or-false (told g h .marked p))
+      mark : leftBy g h .marked p ≡ false
+      mark = ⊎-elim (λ t. absurd (k .not-opened (holds .marks-opened p t))) (λ t. t) (true-or-false (leftBy g h .marked p))
 
-      held : any (lineHolds p e) (told g h .lines) ≡ true → ⊥
+      held : any (lineHolds p e) (leftBy g h .lines) ≡ true → ⊥
       held t =
-          let f = any-has (lineHolds p e) (told g h .lines) t in
+          let f = any-has (lineHolds p e) (leftBy g h .lines) t in
           let l = f .line in
           let w = both (eqb (l .port) p) (inBlock (l .block) e) (f .passes) in
           let live = holds .lines-live l (f .there) in
           k .not-live (l .node) (l .block) (subst (λ (x : ℕ). Live h x (l .node) (l .block)) (eqb-true (l .port) p (w .0)) live) (w .1)
 
-      lines : any (lineHolds p e) (told g h .lines) ≡ false
-      lines = ⊎-elim (λ t. absurd (held t)) (λ t. t) (true-or-false (any (lineHolds p e) (told g h .lines)))
+      lines : any (lineHolds p e) (leftBy g h .lines) ≡ false
+      lines = ⊎-elim (λ t. absurd (held t)) (λ t. t) (true-or-false (any (lineHolds p e) (leftBy g h .lines)))
 
-  held-back : wants (told g h) p e ≡ false → HeldBack g h p e
+  held-back : wants (leftBy g h) p e ≡ false → HeldBack g h p e
   unfolding wants
   held-back t =
-      let a = neither (inBlock (told g h .automatic) e) _ t in
-      let b = neither (told g h .marked p) (any (lineHolds p e) (told g h .lines)) (a .1) in
+      let a = neither (inBlock (leftBy g h .automatic) e) _ t in
+      let b = neither (leftBy g h .marked p) (any (lineHolds p e) (leftBy g h .lines)) (a .1) in
       let unopened : Opened g h p → ⊥ = λ o. true≢false (sym (holds .opened-marks p o) ∙ b .0) in
       record {
-        not-automatic = sym (ap (λ (x : Block). inBlock x e) (told-box g h .1)) ∙ a .0;
+        not-automatic = sym (ap (λ (x : Block). inBlock x e) (left-box g h .1)) ∙ a .0;
         not-live = λ n k l u.
             ⊎-elim
-            (λ there. true≢false (sym (has-any (lineHolds p e) (told g h .lines) (line p n k) there (ap₂ (λ (x y : Bool). x && y) (eq-eqb p p refl) u)) ∙ b .1))
+            (λ there. true≢false (sym (has-any (lineHolds p e) (leftBy g h .lines) (line p n k) there (ap₂ (λ (x y : Bool). x && y) (eq-eqb p p refl) u)) ∙ b .1))
             unopened
             (holds .live-lines p n k l);
         not-opened = unopened;
@@ -88,19 +87,19 @@ start-taken ports r e = go (badPorts ports) refl
 -- Where a report goes, of a port that is there and is not the one it came in by.
 pub report-goes : (g : Gate) (q p e : ℕ) (m : Message) → p < g .ports → (p ≡ q → ⊥) → Reports e m → goesTo g q m p ≡ wants g p e
 unfolding goesTo
-report-goes g q p e m l n r = rw (lt-ltb p (g .ports) l, ne-eqb p q n, r .report) (ap (wantsReport g p) (r .event))
+report-goes g q p e m l n r = rw (lt-ltb p (g .ports) l, ne-eqb p q n) (ap (wantedAt g p) (r .says))
 
 -- What the step answers for a port, of a report that is accepted after a history.
 pub report-sent : (ports r : ℕ) → badPorts ports ≡ false → (h : List Entry) (q : ℕ) (bytes : List ℕ) → step (after (startOf ports r) h) q bytes .refusal ≡ 0
     → (e : ℕ) → Reports e (messageIn bytes) → (p : ℕ) → p < ports → (p ≡ q → ⊥)
-    → step (after (startOf ports r) h) q bytes .to p ≡ wants (told (startOf ports r) (accepted ports h)) p e
+    → step (after (startOf ports r) h) q bytes .to p ≡ wants (leftBy (startOf ports r) (accepted ports h)) p e
 report-sent ports r good h q bytes a e m p l n =
     let g = startOf ports r in
-    let left = history-told g (bounded-start ports r good) h in
-    let there : after g h .ports ≡ ports = ap (λ (x : Gate). x .ports) (left .as-told) ∙ told-box g (accepted ports h) .0 in
+    let left = history-left g (bounded-start ports r good) h in
+    let there : after g h .ports ≡ ports = ap (λ (x : Gate). x .ports) (left .as-left) ∙ left-box g (accepted ports h) .0 in
     ap (λ (o : Outcome). o .to p) (step-taken (after g h) q bytes a)
     ∙ report-goes (after g h) q p e (messageIn bytes) (subst (λ (x : ℕ). p < x) (sym there) l) n m
-    ∙ ap (λ (x : Gate). wants x p e) (left .as-told)
+    ∙ ap (λ (x : Gate). wants x p e) (left .as-left)
 
 -- ---- THE THEOREM
 
@@ -117,7 +116,7 @@ demand-3 ports r s h q bytes a e m p l n =
     same : start ports r .next ≡ startOf ports r
     same = start-taken ports r s .1
 
-    sent : step (after (startOf ports r) h) q bytes .to p ≡ wants (told (startOf ports r) (accepted ports h)) p e
+    sent : step (after (startOf ports r) h) q bytes .to p ≡ wants (leftBy (startOf ports r) (accepted ports h)) p e
     sent =
         report-sent ports r (start-taken ports r s .0) h q bytes
         (subst (λ (g : Gate). step (after g h) q bytes .refusal ≡ 0) same a) e m p l n

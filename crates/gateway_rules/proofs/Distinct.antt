@@ -1,26 +1,23 @@
--- G2: from a start a state is always in bounds and never has two equal lines; places past the count change nothing.
-use Prim.Native.Nat.{ℕ, _≤_, _<_}
+-- G2: from a start a state is always in bounds and never has two equal lines.
+use Prim.Native.Nat.{ℕ, _≤_}
 use mathlib.Core.Path.{_≡_, refl, sym, ap, ap₂, _∙_, subst}
 use mathlib.Core.Bool.{Bool, true, false, cond, not, _&&_, _||_, and-false}
 use mathlib.Core.List.{List, [], _∷_, _++_}
 use borrow.Author.Tests.{not-true}
 use lib.ListN.{length}
-use lib.Dec.{eqb}
-use Rattle.range.specs.Range.{bit}
-use Rattle.range.proofs.Laws.{both, same-truth}
+use Rattle.basics.proofs.Bools.{both, same-truth, neither}
 use Rattle.message.specs.declared.Message.{Message}
-use Rattle.message.proofs.Writings.{neither}
 use Rattle.gateway_rules.specs.declared.Line.{Line}
-use Rattle.gateway_rules.specs.declared.Gateway.{Gateway}
-use Rattle.gateway_rules.specs.State.{Gate, full, lineAt, firstPlaces, gateIn, listsOf, gateOf, outOfBounds, startOf}
-use Rattle.gateway_rules.specs.Step.{sameLine, has, ownedAt, without, step, start}
-use Rattle.gateway_rules.specs.History.{Entry, after, Heard, accepted, told}
-use Rattle.gateway_rules.proofs.Lists.{same-line, has-append, has-without, first-same}
-use Rattle.histories.proofs.Sinces.{by-end}
-use Rattle.gateway_rules.proofs.Changes.{Change, change-of, told-end}
+use Rattle.gateway_rules.specs.State.{Gate, full, outOfBounds, startOf}
+use Rattle.basics.specs.Lists.{without}
+use Rattle.gateway_rules.specs.Step.{sameLine, has, ownedAt, start}
+use Rattle.gateway_rules.specs.History.{Entry, after, Heard, accepted, leftBy}
+use Rattle.gateway_rules.proofs.Lists.{same-line, has-append, has-without}
+use Rattle.basics.proofs.Sinces.{by-end}
+use Rattle.gateway_rules.proofs.Changes.{Change, change-of, left-end}
 use Rattle.gateway_rules.proofs.Changes.Change.{restarted, known, added, opened, passed}
 use Rattle.gateway_rules.proofs.Bounds.{bounded-in, bounded-start}
-use Rattle.gateway_rules.proofs.Hearing.{history-told}
+use Rattle.gateway_rules.proofs.Hearing.{history-left}
 use Rattle.gateway_rules.proofs.Demand3.{start-taken}
 
 -- ---- lines that are all different
@@ -61,12 +58,12 @@ distinct-change g q m d (restarted e) = distinct-without (ownedAt q (m .source))
 distinct-change g q m d (known b e t) = d
 distinct-change g q m d (added b e f room) = distinct-append (g .lines) _ d f
 distinct-change g q m d (opened b e f most) = d
-distinct-change g q m d (passed k e) = d
+distinct-change g q m d (passed e) = d
 
-distinct-told : (g : Gate) → distinct (g .lines) ≡ true → (h : List Heard) → distinct (told g h .lines) ≡ true
-distinct-told g d =
-    by-end (λ (h : List Heard). distinct (told g h .lines) ≡ true) d
-    (λ h s e. ap (λ (x : Gate). distinct (x .lines)) (told-end g h s) ∙ distinct-change (told g h) (s .port) (s .message) e (change-of (told g h) (s .port) (s .message)))
+distinct-left : (g : Gate) → distinct (g .lines) ≡ true → (h : List Heard) → distinct (leftBy g h .lines) ≡ true
+distinct-left g d =
+    by-end (λ (h : List Heard). distinct (leftBy g h .lines) ≡ true) d
+    (λ h s e. ap (λ (x : Gate). distinct (x .lines)) (left-end g h s) ∙ distinct-change (leftBy g h) (s .port) (s .message) e (change-of (leftBy g h) (s .port) (s .message)))
 
 none-distinct : distinct [] ≡ true
 unfolding distinct
@@ -80,26 +77,9 @@ pub always-in-bounds : (ports r : ℕ) → start ports r .refusal ≡ 0 → (h :
 always-in-bounds ports r s h =
     let begun = start-taken ports r s in
     let g = startOf ports r in
-    let left = history-told g (bounded-start ports r (begun .0)) h in
+    let left = history-left g (bounded-start ports r (begun .0)) h in
     subst (λ (g : Gate). (outOfBounds (after g h) ≡ false) × (length (after g h .lines) ≤ full) × (distinct (after g h .lines) ≡ true)) (sym (begun .1)) (
       bounded-in (after g h) (left .bounded),
       left .bounded .few,
-      ap (λ (x : Gate). distinct (x .lines)) (left .as-told) ∙ distinct-told g none-distinct (accepted ports h),
+      ap (λ (x : Gate). distinct (x .lines)) (left .as-left) ∙ distinct-left g none-distinct (accepted ports h),
     )
-
--- ---- places past the count
-
--- Two states of the code that differ only past the count.
-pub record SameToTheCount (a b : Gateway) : Type 0 where
-  pub ports : a .head .ports ≡ b .head .ports
-  pub automatic : a .head .automatic ≡ b .head .automatic
-  pub marks : a .head .marks ≡ b .head .marks
-  pub count : a .head .count ≡ b .head .count
-  pub places : (i : ℕ) → i < a .head .count → lineAt (listsOf a) i ≡ lineAt (listsOf b) i
-
--- They get the same answers and the same next state.
-pub past-the-count : (a b : Gateway) → SameToTheCount a b → (q : ℕ) (bytes : List ℕ) → step (gateOf a) q bytes ≡ step (gateOf b) q bytes
-unfolding gateIn
-past-the-count a b s q bytes =
-    let lines = first-same (a .head .count) (lineAt (listsOf a)) (lineAt (listsOf b)) (s .places) ∙ ap (λ (n : ℕ). firstPlaces n (lineAt (listsOf b))) (s .count) in
-    λ i. step (record { ports = s .ports i; automatic = s .automatic i; lines = lines i; marked = λ p. eqb (bit p (s .marks i)) 1 }) q bytes

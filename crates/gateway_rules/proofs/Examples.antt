@@ -1,25 +1,23 @@
 -- That nothing above is vacuous, by computation: document 01's example, a live announcement, and a table that fills.
 use Prim.Native.Nat.{ℕ, zero, suc}
 use mathlib.Core.Path.{_≡_, refl}
-use mathlib.Core.Bool.{true, false, cond, false≢true}
+use mathlib.Core.Bool.{true, false, cond}
 use mathlib.Core.List.{List, [], _∷_, _++_}
 use lib.ListN.{length}
-use Rattle.range.specs.Range.{bitsEqual, run, isBlock, inBlock, single, blockOf, sameBlock}
+use Rattle.range.specs.Range.{bitsEqual, run, isBlock, hasNumber, inBlock, single, blockOf, house, sameBlock}
 use Rattle.numbers.specs.Numbers.{spelled, bytesOf}
 use Rattle.message.specs.declared.Field.the-variants.{Present, Absent}
 use Rattle.message.specs.Mti.{meaningOf}
 use Rattle.message.specs.Messages.{badNodes, badContent, otherSource}
 use Rattle.message.specs.Reading.{fieldsIn}
-use Rattle.message.specs.Announcing.{announcementOf}
+use Rattle.message.specs.Saying.{saidBy}
 use Rattle.gateway_rules.specs.State.{Gate, outOfBounds, startOf}
 use Rattle.gateway_rules.specs.Step.{announce, taken, wants, goesTo, step}
-use Rattle.gateway_rules.specs.History.{Entry, Heard, Live, told}
-use Rattle.histories.specs.Since.Never.{nothing, nor}
+use Rattle.gateway_rules.specs.History.{Entry, Heard, Live, leftBy}
+use Rattle.gateway_rules.proofs.Holding.{no-restart}
+use Rattle.basics.specs.Since.Never.{nothing, nor}
 
 -- ---- document 01's seven entries
-
-abbrev house : ℕ
-house = 0x010000000000FFFF
 
 abbrev entry : ℕ → List ℕ → Entry
 entry port bytes = record { port = port; bytes = bytes }
@@ -62,7 +60,7 @@ row refusal a b c d lines = record { refusal = refusal; digits = a ∷ b ∷ c �
 
 pub seven-lines : printed (startOf 4 house) seven
     ≡ row 0 1 0 1 1 1 ∷ row 0 0 1 0 0 1 ∷ row 0 1 0 1 1 1 ∷ row 0 0 1 0 0 1 ∷ row 0 1 0 1 1 0 ∷ row 0 0 0 0 0 0 ∷ row 8 0 0 0 0 0 ∷ []
-unfolding step outOfBounds isBlock inBlock blockOf run bitsEqual sameBlock wants goesTo taken announce announcementOf meaningOf fieldsIn badNodes badContent otherSource spelled bytesOf
+unfolding step outOfBounds isBlock hasNumber inBlock blockOf run bitsEqual sameBlock wants goesTo taken announce saidBy meaningOf fieldsIn badNodes badContent otherSource spelled bytesOf
 seven-lines = refl
 
 -- ---- a live announcement, and a table that fills
@@ -78,21 +76,21 @@ announcements zero = []
 announcements (suc n) = announcements n ++ (announcement n ∷ [])
 
 pub something-live : Live (announcements 3) 1 board (single 1)
-unfolding Live announcementOf meaningOf
+unfolding Live saidBy meaningOf
 something-live = record {
   before = announcement 0 ∷ [];
   by = announcement 1;
   later = announcement 2 ∷ [];
   split = refl;
-  started = record { here = refl; sender = refl; block = refl };
-  lasting = nor (λ r. false≢true (r .complete)) nothing;
+  started = record { here = refl; sender = refl; says = refl };
+  lasting = nor (no-restart (single 2) refl) nothing;
 }
 
 -- 256 announcements fill the table, and the next opens the port.
-pub full-at-256 : (length (told (startOf 4 house) (announcements 256) .lines) ≡ 256) × (told (startOf 4 house) (announcements 256) .marked 1 ≡ false)
-unfolding taken announce announcementOf meaningOf sameBlock
+pub full-at-256 : (length (leftBy (startOf 4 house) (announcements 256) .lines) ≡ 256) × (leftBy (startOf 4 house) (announcements 256) .marked 1 ≡ false)
+unfolding taken announce saidBy meaningOf sameBlock
 full-at-256 = (refl, refl)
 
-pub opens-at-257 : (length (told (startOf 4 house) (announcements 257) .lines) ≡ 256) × (told (startOf 4 house) (announcements 257) .marked 1 ≡ true)
-unfolding taken announce announcementOf meaningOf sameBlock
+pub opens-at-257 : (length (leftBy (startOf 4 house) (announcements 257) .lines) ≡ 256) × (leftBy (startOf 4 house) (announcements 257) .marked 1 ≡ true)
+unfolding taken announce saidBy meaningOf sameBlock
 opens-at-257 = (refl, refl)

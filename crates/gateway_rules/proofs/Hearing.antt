@@ -10,13 +10,13 @@ use Rattle.message.specs.declared.Reading.{Reading}
 use Rattle.message.specs.declared.Reading.the-variants.{Read, Refused}
 use Rattle.message.specs.Messages.{badNode, badWherePresent, badNodes}
 use Rattle.message.specs.Reading.{messageIn, readTests, readOf}
-use Rattle.message.specs.Refusals.{firstOf, answered}
+use Rattle.basics.specs.Refusals.{firstOf, answered}
 use Rattle.message.proofs.Exactly.{read-accepted}
-use Rattle.message.proofs.Firsts.{first-passed, rest-passed}
-use Rattle.message.proofs.Writings.{neither}
+use Rattle.basics.proofs.Firsts.{first-passed, rest-passed}
+use Rattle.basics.proofs.Bools.{neither}
 use Rattle.gateway_rules.specs.State.{Gate, outOfBounds}
 use Rattle.gateway_rules.specs.Step.{taken, taking, refusing, step}
-use Rattle.gateway_rules.specs.History.{Entry, after, Heard, heardAt, accepted, told}
+use Rattle.gateway_rules.specs.History.{Entry, after, Heard, heardAt, accepted, leftBy}
 use Rattle.gateway_rules.proofs.Changes.{change-of}
 use Rattle.gateway_rules.proofs.Bounds.{Bounded, bounded-in, bounded-taken, same-box}
 
@@ -24,33 +24,33 @@ use Rattle.gateway_rules.proofs.Bounds.{Bounded, bounded-in, bounded-ta
 abbrev pub heardOf : ℕ → ℕ → List ℕ → List Heard
 heardOf ports q bytes = cond (ltb q ports) (heardAt q (readOf bytes)) []
 
--- ---- told in two parts
+-- ---- leftBy in two parts
 
-pub told-append : (g : Gate) (h k : List Heard) → told g (h ++ k) ≡ told (told g h) k
-told-append g [] k = refl
-told-append g (s ∷ h) k = told-append (taken g (s .port) (s .message)) h k
+pub left-append : (g : Gate) (h k : List Heard) → leftBy g (h ++ k) ≡ leftBy (leftBy g h) k
+left-append g [] k = refl
+left-append g (s ∷ h) k = left-append (taken g (s .port) (s .message)) h k
 
-pub told-box : (g : Gate) (h : List Heard) → (told g h .ports ≡ g .ports) × (told g h .automatic ≡ g .automatic)
-told-box g [] = (refl, refl)
-told-box g (s ∷ h) =
+pub left-box : (g : Gate) (h : List Heard) → (leftBy g h .ports ≡ g .ports) × (leftBy g h .automatic ≡ g .automatic)
+left-box g [] = (refl, refl)
+left-box g (s ∷ h) =
     let first = same-box (change-of g (s .port) (s .message)) in
-    let rest = told-box (taken g (s .port) (s .message)) h in
+    let rest = left-box (taken g (s .port) (s .message)) h in
     (rest .0 ∙ first .0, rest .1 ∙ first .1)
 
 -- ---- one entry
 
-by-number : (g : Gate) (q n : ℕ) (m : Message) → answered (taking g q) (refusing g) n m .next ≡ told g (heardAt q (answered Read Refused n m))
+by-number : (g : Gate) (q n : ℕ) (m : Message) → answered (taking g q) (refusing g) n m .next ≡ leftBy g (heardAt q (answered Read Refused n m))
 by-number g q zero m = refl
 by-number g q (suc n) m = refl
 
 -- A step of a state in bounds takes what is heard, and nothing else.
-pub step-heard : (g : Gate) (q : ℕ) (bytes : List ℕ) → outOfBounds g ≡ false → step g q bytes .next ≡ told g (heardOf (g .ports) q bytes)
+pub step-heard : (g : Gate) (q : ℕ) (bytes : List ℕ) → outOfBounds g ≡ false → step g q bytes .next ≡ leftBy g (heardOf (g .ports) q bytes)
 unfolding step readOf
 step-heard g q bytes i = rw i (go (ltb q (g .ports)) refl)
   where
     go : (t : Bool) → ltb q (g .ports) ≡ t
         → answered (taking g q) (refusing g) (cond (leb (g .ports) q) 8 (firstOf (readTests bytes))) (messageIn bytes) .next
-        ≡ told g (cond t (heardAt q (answered Read Refused (firstOf (readTests bytes)) (messageIn bytes))) [])
+        ≡ leftBy g (cond t (heardAt q (answered Read Refused (firstOf (readTests bytes)) (messageIn bytes))) [])
     go true e = rw (lt-leb (g .ports) q (ltb-true q (g .ports) e)) (by-number g q (firstOf (readTests bytes)) (messageIn bytes))
     go false e = rw (le-leb (g .ports) q (ltb-false q (g .ports) e))
 
@@ -62,10 +62,10 @@ read-source bytes m e =
     let nodes = first-passed (rest-passed (rest-passed (rest-passed (h .0)))) in
     ap (λ (x : Message). badNode (x .source)) (h .1) ∙ neither (badNode (messageIn bytes .source)) (badWherePresent (messageIn bytes .destination)) nodes .0
 
-pub heard-bounded : (g : Gate) (q : ℕ) (bytes : List ℕ) → Bounded g → Bounded (told g (heardOf (g .ports) q bytes))
+pub heard-bounded : (g : Gate) (q : ℕ) (bytes : List ℕ) → Bounded g → Bounded (leftBy g (heardOf (g .ports) q bytes))
 heard-bounded g q bytes i = go (ltb q (g .ports)) refl (readOf bytes) refl
   where
-    go : (t : Bool) → ltb q (g .ports) ≡ t → (r : Reading) → readOf bytes ≡ r → Bounded (told g (cond t (heardAt q r) []))
+    go : (t : Bool) → ltb q (g .ports) ≡ t → (r : Reading) → readOf bytes ≡ r → Bounded (leftBy g (cond t (heardAt q r) []))
     go true e (Read m) f = bounded-taken g q m i (ltb-true q (g .ports) e) (read-source bytes m f)
     go true e (Refused n) f = i
     go false e r f = i
@@ -73,22 +73,22 @@ heard-bounded g q bytes i = go (ltb q (g .ports)) refl (readOf bytes) refl
 -- ---- every history
 
 pub record Left (g : Gate) (h : List Entry) : Type 0 where
-  pub as-told : after g h ≡ told g (accepted (g .ports) h)
+  pub as-left : after g h ≡ leftBy g (accepted (g .ports) h)
   pub bounded : Bounded (after g h)
 
-pub history-told : (g : Gate) → Bounded g → (h : List Entry) → Left g h
+pub history-left : (g : Gate) → Bounded g → (h : List Entry) → Left g h
 unfolding accepted
-history-told g i [] = record { as-told = refl; bounded = i }
-history-told g i (e ∷ h) =
+history-left g i [] = record { as-left = refl; bounded = i }
+history-left g i (e ∷ h) =
     let heard = heardOf (g .ports) (e .port) (e .bytes) in
     let one = step-heard g (e .port) (e .bytes) (bounded-in g i) in
     let g′ = step g (e .port) (e .bytes) .next in
     let i′ : Bounded g′ = subst Bounded (sym one) (heard-bounded g (e .port) (e .bytes) i) in
-    let rest = history-told g′ i′ h in
-    let ports : g′ .ports ≡ g .ports = ap (λ (x : Gate). x .ports) one ∙ told-box g heard .0 in
+    let rest = history-left g′ i′ h in
+    let ports : g′ .ports ≡ g .ports = ap (λ (x : Gate). x .ports) one ∙ left-box g heard .0 in
     record {
-      as-told = rest .as-told
-          ∙ ap₂ (λ (x : Gate) (n : ℕ). told x (accepted n h)) one ports
-          ∙ sym (told-append g heard (accepted (g .ports) h));
+      as-left = rest .as-left
+          ∙ ap₂ (λ (x : Gate) (n : ℕ). leftBy x (accepted n h)) one ports
+          ∙ sym (left-append g heard (accepted (g .ports) h));
       bounded = rest .bounded;
     }

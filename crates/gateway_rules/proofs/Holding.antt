@@ -10,17 +10,19 @@ use borrow.Author.Tests.{eqb-true, eq-eqb}
 use lib.Dec.{eqb}
 use lib.ListN.{length, length-append}
 use Rattle.range.specs.declared.Block.{Block}
-use Rattle.range.proofs.Laws.{both}
-use Rattle.message.specs.declared.Message.{Message}
-use Rattle.message.specs.declared.Announcement.the-variants.{Of, Nothing}
-use Rattle.message.specs.Announcing.{announcementOf}
+use Rattle.basics.proofs.Bools.{both}
+use Rattle.message.specs.declared.Saying.{Saying}
+use Rattle.message.specs.declared.Saying.the-variants.{Announcement, Restart}
+use Rattle.message.specs.Saying.{saidBy}
 use Rattle.gateway_rules.specs.declared.Line.{Line}
 use Rattle.gateway_rules.specs.State.{Gate, full}
-use Rattle.gateway_rules.specs.Step.{line, sameLine, has, ownedAt, without}
-use Rattle.gateway_rules.specs.History.{Heard, Announces, Restarts, Live, told, Overflows, Opened}
-use Rattle.gateway_rules.proofs.Lists.{same-line, has-append, has-without, length-without}
-use Rattle.histories.proofs.Sinces.{by-end, since-none, since-new, since-old, since-end}
-use Rattle.gateway_rules.proofs.Changes.{Change, restart-silent, change-of, told-end}
+use Rattle.gateway_rules.specs.Step.{line, sameLine, has, ownedAt}
+use Rattle.basics.specs.Lists.{without}
+use Rattle.gateway_rules.specs.History.{Heard, changing, Announces, Restarts, Live, leftBy, Overflows, Opened}
+use Rattle.gateway_rules.proofs.Lists.{same-line, has-append, has-without}
+use Rattle.basics.proofs.Lists.{length-without}
+use Rattle.basics.proofs.Sinces.{by-end, since-none, since-new, since-old, since-end}
+use Rattle.gateway_rules.proofs.Changes.{Change, change-of, left-end}
 use Rattle.gateway_rules.proofs.Changes.Change.{restarted, known, added, opened, passed}
 
 -- ---- live and opened, one message later
@@ -61,20 +63,20 @@ never-opened g p o = since-none (Overflows g p) (λ _. ⊥) o
 
 -- ---- what a message can not be at once
 
-of-nothing : (m : Message) (b : Block) → announcementOf m ≡ Nothing → announcementOf m ≡ Of b → ⊥
-of-nothing m b e f = let z : _≡_ {A = ℕ} 0 1 = cc in omega arith
+not-both : (s : Saying) (b : Block) → s ≡ Restart → s ≡ Announcement b → ⊥
+not-both s b e f = let z : _≡_ {A = ℕ} 0 1 = cc in omega arith
 
-no-restart : {p n : ℕ} {s : Heard} (b : Block) → announcementOf (s .message) ≡ Of b → Restarts p n s → ⊥
-no-restart {s = s} b e r = of-nothing (s .message) b (restart-silent (s .message) (r .complete)) e
+pub no-restart : {p n : ℕ} {s : Heard} (b : Block) → saidBy (s .message) ≡ Announcement b → Restarts p n s → ⊥
+no-restart {s = s} b e r = not-both (saidBy (s .message)) b (r .says) e
 
 -- The line of an announcement.
-announced-line : {p n : ℕ} {b b′ : Block} {s : Heard} → Announces p n b s → announcementOf (s .message) ≡ Of b′ → line p n b ≡ line (s .port) (s .message .source) b′
+announced-line : {p n : ℕ} {b b′ : Block} {s : Heard} → Announces p n b s → saidBy (s .message) ≡ Announcement b′ → line p n b ≡ line (s .port) (s .message .source) b′
 announced-line {b = b} {b′ = b′} {s = s} a e =
-    let block : b ≡ b′ = of-once b b′ (sym (a .block) ∙ e) in
+    let block : b ≡ b′ = announced-once b b′ (sym (a .says) ∙ e) in
     λ i. record { port = sym (a .here) i; node = sym (a .sender) i; block = block i }
   where
-    of-once : (x y : Block) → Of x ≡ Of y → x ≡ y
-    of-once x y p = cc
+    announced-once : (x y : Block) → Announcement x ≡ Announcement y → x ≡ y
+    announced-once x y p = cc
 
 -- ---- the invariant
 
@@ -102,9 +104,9 @@ pub either-true : (p q : Bool) → (p || q) ≡ true → (p ≡ true) ⊎ (q ≡
 either-true true q e = inl refl
 either-true false q e = inr e
 
-module _ (start : Gate) (h : List Heard) (s : Heard) (i : Holds start (told start h) h) where
+module _ (start : Gate) (h : List Heard) (s : Heard) (i : Holds start (leftBy start h) h) where
   abbrev g : Gate
-  g = told start h
+  g = leftBy start h
 
   abbrev h′ : List Heard
   h′ = h ++ (s ∷ [])
@@ -128,7 +130,7 @@ module _ (start : Gate) (h : List Heard) (s : Heard) (i : Holds start (told star
   still-marked none p o = ⊎-elim (λ v. absurd (none p v)) (i .opened-marks p) (opened-end start p h s o)
 
   -- An announcement that has a line, or that is none, overflows nothing.
-  no-overflow : (b : Block) → announcementOf (s .message) ≡ Of b → has (g .lines) (line (s .port) (s .message .source) b) ≡ true → (p : ℕ) → Overflows start p h s → ⊥
+  no-overflow : (b : Block) → saidBy (s .message) ≡ Announcement b → has (g .lines) (line (s .port) (s .message .source) b) ≡ true → (p : ℕ) → Overflows start p h s → ⊥
   no-overflow b e t p v = true≢false (sym (ap (has (g .lines)) (announced-line (v .announces) e) ∙ t) ∙ v .new)
 
   holds-step : {g′ : Gate} → Change g (s .port) (s .message) g′ → Holds start g′ h′
@@ -137,15 +139,15 @@ module _ (start : Gate) (h : List Heard) (s : Heard) (i : Holds start (told star
         (λ l t stays.
         has-without (ownedAt (s .port) (s .message .source)) (g .lines) l
         ∙ ⊎-elim
-        (λ o. let w = owned (s .port) (s .message .source) l o in let n = w .1 in absurd (stays (record { here = sym (w .0); node = cc; complete = e })))
+        (λ o. let w = owned (s .port) (s .message .source) l o in let n = w .1 in absurd (stays (record { here = sym (w .0); node = cc; says = e })))
         (λ o. ap₂ (λ (x y : Bool). not x && y) o t)
         (true-or-false (ownedAt (s .port) (s .message .source) l)))
-        (λ p n b a. absurd (of-nothing (s .message) b (restart-silent (s .message) e) (a .block)));
+        (λ p n b a. absurd (not-both (saidBy (s .message)) b e (a .says)));
     lines-live = λ l t.
         let k = both (not (ownedAt (s .port) (s .message .source) l)) (has (g .lines) l) (sym (has-without (ownedAt (s .port) (s .message .source)) (g .lines) l) ∙ t) in
         live-old (l .port) (l .node) (l .block) h s (i .lines-live l (k .1))
         (λ r. false≢true (sym (ap not (owns (s .port) (s .message .source) l (sym (r .here)) (sym (r .node)))) ∙ k .0));
-    opened-marks = still-marked (λ p v. of-nothing (s .message) (v .block) (restart-silent (s .message) e) (v .announces .block));
+    opened-marks = still-marked (λ p v. not-both (saidBy (s .message)) (v .block) e (v .announces .says));
     marks-opened = still-opened;
     few = le-trans (length-without (ownedAt (s .port) (s .message .source)) (g .lines)) (i .few);
   }
@@ -168,7 +170,7 @@ module _ (start : Gate) (h : List Heard) (s : Heard) (i : Holds start (told star
         (λ u.
         let same = same-line l (line (s .port) (s .message .source) b) .0 u in
         subst (λ (x : Line). Live h′ (x .port) (x .node) (x .block)) (sym same)
-        (live-new (s .port) (s .message .source) b h s (record { here = refl; sender = refl; block = e })))
+        (live-new (s .port) (s .message .source) b h s (record { here = refl; sender = refl; says = e })))
         (either-true (has (g .lines) l) (sameLine l (line (s .port) (s .message .source) b)) (sym (has-append (g .lines) (line (s .port) (s .message .source) b) l) ∙ t));
     opened-marks = still-marked (λ p v. omega (arith, v .met, room));
     marks-opened = still-opened;
@@ -189,21 +191,21 @@ module _ (start : Gate) (h : List Heard) (s : Heard) (i : Holds start (told star
       overflow = opened-new start (s .port) h s (record {
         node = s .message .source;
         block = b;
-        announces = record { here = refl; sender = refl; block = e };
+        announces = record { here = refl; sender = refl; says = e };
         new = f;
         met = le-antisymm (i .few) most;
       })
-  holds-step (passed k e) = record {
-    live-lines = still-there (g .lines) (λ l u _. u) (λ p n b a. absurd (of-nothing (s .message) b e (a .block)));
-    lines-live = still-live (λ l r. true≢false (sym (r .complete) ∙ k));
-    opened-marks = still-marked (λ p v. of-nothing (s .message) (v .block) e (v .announces .block));
+  holds-step (passed e) = record {
+    live-lines = still-there (g .lines) (λ l u _. u) (λ p n b a. absurd (true≢false (sym (ap changing (a .says)) ∙ e)));
+    lines-live = still-live (λ l r. true≢false (sym (ap changing (r .says)) ∙ e));
+    opened-marks = still-marked (λ p v. true≢false (sym (ap changing (v .announces .says)) ∙ e));
     marks-opened = still-opened;
     few = i .few;
   }
 
 -- It holds of a state without lines and marks, and after every accepted message.
-pub holds-always : (start : Gate) → start .lines ≡ [] → ((p : ℕ) → start .marked p ≡ false) → (h : List Heard) → Holds start (told start h) h
-holds-always start empty closed = by-end (λ (h : List Heard). Holds start (told start h) h) base step
+pub holds-always : (start : Gate) → start .lines ≡ [] → ((p : ℕ) → start .marked p ≡ false) → (h : List Heard) → Holds start (leftBy start h) h
+holds-always start empty closed = by-end (λ (h : List Heard). Holds start (leftBy start h) h) base step
   where
     base : Holds start start []
     base = record {
@@ -214,7 +216,7 @@ holds-always start empty closed = by-end (λ (h : List Heard). Holds start (told
       few = subst (λ (ls : List Line). length ls ≤ full) (sym empty) zero-le;
     }
 
-    step : (h : List Heard) (s : Heard) → Holds start (told start h) h → Holds start (told start (h ++ (s ∷ []))) (h ++ (s ∷ []))
+    step : (h : List Heard) (s : Heard) → Holds start (leftBy start h) h → Holds start (leftBy start (h ++ (s ∷ []))) (h ++ (s ∷ []))
     step h s i =
-        subst (λ (x : Gate). Holds start x (h ++ (s ∷ []))) (sym (told-end start h s))
-        (holds-step start h s i (change-of (told start h) (s .port) (s .message)))
+        subst (λ (x : Gate). Holds start x (h ++ (s ∷ []))) (sym (left-end start h s))
+        (holds-step start h s i (change-of (leftBy start h) (s .port) (s .message)))

@@ -1,4 +1,5 @@
 pub mod Lists
+pub mod Said
 pub mod Changes
 pub mod Holding
 pub mod Bounds

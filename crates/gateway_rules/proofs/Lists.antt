@@ -1,22 +1,17 @@
 -- Lines in a list: one that is there, one that is added, some that are left out.
-use Prim.Native.Nat.{ℕ, zero, suc, _≤_, _<_, zero-le, suc-le-suc}
-use native.Mathlib.Nat.{le-refl, le-trans, le-suc}
-use native.Mathlib.Omega.{arith}
-use lib.ListN.{length, length-append}
-use Rattle.message.proofs.Writings.{neither}
-use mathlib.Core.Path.{_≡_, refl, sym, ap, ap₂, _∙_}
+use Rattle.basics.proofs.Bools.{both}
+use mathlib.Core.Path.{_≡_, refl, sym, ap, _∙_}
 use mathlib.Core.Logic.{_↔_}
 use mathlib.Core.Bool.{Bool, true, false, cond, not, _&&_, _||_, and-false, or-false, or-true, false≢true}
 use mathlib.Core.List.{List, [], _∷_, _++_}
 use borrow.Author.Tests.{eqb-true, eq-eqb}
 use lib.Dec.{eqb}
 use Rattle.range.specs.Range.{sameBlock}
-use Rattle.range.proofs.Laws.{both, same-block}
+use Rattle.range.proofs.Laws.{same-block}
 use Rattle.gateway_rules.specs.declared.Line.{Line}
-use Rattle.sets.specs.Sets.{any}
-use Rattle.sets.proofs.Sets.{any-append}
-use Rattle.gateway_rules.specs.State.{firstPlaces}
-use Rattle.gateway_rules.specs.Step.{sameLine, has, without}
+use Rattle.basics.specs.Lists.{any, without}
+use Rattle.basics.proofs.Lists.{any-append}
+use Rattle.gateway_rules.specs.Step.{sameLine, has}
 
 -- ---- one line and another
 
@@ -84,33 +79,3 @@ has-without test (x ∷ xs) l = go (test x) refl (sameLine l x) refl (has-withou
     go true e false f rest = rest
     go false e true f rest = ap (λ (b : Bool). b || has (without test xs) l) f ∙ sym (ap (λ (b : Bool). not b && true) (ap test (same-line l x .0 f) ∙ e))
     go false e false f rest = ap (λ (b : Bool). b || has (without test xs) l) f ∙ rest
-
-pub length-without : {A : Type 0} (test : A → Bool) (xs : List A) → length (without test xs) ≤ length xs
-length-without test [] = zero-le
-length-without test (x ∷ xs) = go (test x) (length-without test xs)
-  where
-    go : (t : Bool) → length (without test xs) ≤ length xs → length (cond t (without test xs) (x ∷ without test xs)) ≤ length (x ∷ xs)
-    go true h = le-trans h (le-suc (length xs))
-    go false h = suc-le-suc h
-
-pub without-none : {A : Type 0} (test out : A → Bool) (xs : List A) → any test xs ≡ false → any test (without out xs) ≡ false
-without-none test out [] h = refl
-without-none test out (x ∷ xs) h = go (out x) (neither (test x) (any test xs) h) (without-none test out xs)
-  where
-    go : (t : Bool) → (test x ≡ false) × (any test xs ≡ false) → (any test xs ≡ false → any test (without out xs) ≡ false)
-        → any test (cond t (without out xs) (x ∷ without out xs)) ≡ false
-    go true h k = k (h .1)
-    go false h k = rw (h .0) (k (h .1))
-
--- ---- the places of the code's table
-
-pub count-places : (n : ℕ) (at : ℕ → Line) → length (firstPlaces n at) ≡ n
-unfolding firstPlaces
-count-places zero at = refl
-count-places (suc n) at = omega (arith, length-append (firstPlaces n at) (at n ∷ []), count-places n at)
-
-pub first-same : (n : ℕ) (at to : ℕ → Line) → ((i : ℕ) → i < n → at i ≡ to i) → firstPlaces n at ≡ firstPlaces n to
-unfolding firstPlaces
-first-same zero at to h = refl
-first-same (suc n) at to h =
-    ap₂ (λ (front : List Line) (l : Line). front ++ (l ∷ [])) (first-same n at to (λ i l. h i (le-trans l (le-suc n)))) (h n (le-refl (suc n)))

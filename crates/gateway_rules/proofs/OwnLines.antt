@@ -5,13 +5,14 @@ use mathlib.Core.Bool.{Bool, true, false, cond}
 use mathlib.Core.List.{List, [], _∷_, _++_, append-nil}
 use borrow.Author.Tests.{eq-eqb}
 use lib.Dec.{eqb}
-use Rattle.range.proofs.Laws.{both}
+use Rattle.basics.proofs.Bools.{both}
 use Rattle.message.specs.declared.Message.{Message}
 use Rattle.message.specs.Reading.{messageIn}
-use Rattle.message.specs.Refusals.{firstOf, answered}
+use Rattle.basics.specs.Refusals.{firstOf, answered}
 use Rattle.gateway_rules.specs.declared.Line.{Line}
 use Rattle.gateway_rules.specs.State.{Gate}
-use Rattle.gateway_rules.specs.Step.{line, ownedAt, without, taking, refusing, stepTests, step}
+use Rattle.gateway_rules.specs.Step.{line, ownedAt, taking, refusing, stepTests, step}
+use Rattle.basics.specs.Lists.{without}
 use Rattle.gateway_rules.proofs.Changes.{Change, change-of}
 use Rattle.gateway_rules.proofs.Changes.Change.{restarted, known, added, opened, passed}
 
@@ -49,7 +50,7 @@ own-change g q m (added b e f room) =
     ∙ ap (λ (t : Bool). without (ownedAt q (m .source)) (g .lines) ++ cond t [] (line q (m .source) b ∷ [])) (owned-here q (m .source) (line q (m .source) b) refl refl)
     ∙ append-nil (without (ownedAt q (m .source)) (g .lines))
 own-change g q m (opened b e f most) = refl
-own-change g q m (passed k e) = refl
+own-change g q m (passed e) = refl
 
 -- The lines but those of the sender at the port of arrival are the same after a step, in the same order.
 pub only-own-lines : (g : Gate) (q : ℕ) (bytes : List ℕ)

@@ -10,8 +10,10 @@ use Rattle.message.specs.declared.Kind.the-variants.{EventReport}
 use Rattle.message.specs.declared.Message.{Message}
 use Rattle.message.specs.declared.Reading.the-variants.{Read}
 use Rattle.message.specs.Mti.{isReport, carriesEvent, eventAt, kindOf}
-use Rattle.message.specs.Reading.{numberAt, fieldAt, fieldsIn, mtiIn, readOf}
+use Rattle.numbers.specs.Numbers.{numberAt}
+use Rattle.message.specs.Reading.{fieldAt, fieldsIn, mtiIn, readOf}
 use Rattle.message.proofs.Exactly.{read-accepted}
+use Rattle.message.proofs.Sayings.{says-report}
 use Rattle.message.proofs.KindsOfMti.{mtisOf, kind-exactly}
 use Rattle.gateway_rules.specs.History.{Reports}
 use Rattle.gateway_rules.proofs.Holding.{either-true}
@@ -30,4 +32,4 @@ accepted-reports bytes m r k =
     let held = read-accepted bytes m .0 r .1 in
     let carries = report-carries (mtiIn bytes) (sym (ap (λ (x : Message). isReport (kindOf (x .mti))) held) ∙ k) in
     let event = ap (λ (x : Message). x .event) held ∙ ap (λ (t : Bool). fieldAt t bytes (eventAt (mtiIn bytes)) 8) carries in
-    (numberAt bytes (eventAt (mtiIn bytes)) 8, record { report = k; event = event })
+    (numberAt bytes (eventAt (mtiIn bytes)) 8, record { says = says-report m _ k event })

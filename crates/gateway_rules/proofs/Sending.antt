@@ -6,12 +6,13 @@ use mathlib.Core.Bool.{Bool, true, false, cond, not, _&&_, and-false}
 use mathlib.Core.List.{List}
 use borrow.Author.Tests.{ltb-true, lt-ltb, eq-eqb, ne-eqb, eqb-false, not-true, not-false, leb-true, le-leb}
 use lib.Dec.{eqb, ltb, leb}
-use Rattle.range.proofs.Laws.{both}
+use Rattle.basics.proofs.Bools.{both}
 use Rattle.message.specs.declared.Message.{Message}
 use Rattle.message.specs.Mti.{isReport, kindOf}
 use Rattle.message.specs.Reading.{messageIn}
-use Rattle.message.specs.Refusals.{firstOf, answered, None, Given}
-use Rattle.message.proofs.Firsts.{first-none, first-given}
+use Rattle.basics.specs.Refusals.{firstOf, answered, None, Given}
+use Rattle.basics.proofs.Firsts.{first-none, first-given}
+use Rattle.gateway_rules.proofs.Said.{others-wanted}
 use Rattle.gateway_rules.specs.State.{Gate, badPorts, outOfBounds, startOf}
 use Rattle.gateway_rules.specs.Step.{goesTo, taking, refusing, stepTests, step, starting, start}
 
@@ -82,7 +83,7 @@ never-back g q m = rw (eq-eqb q q refl) (and-false (ltb q (g .ports)))
 -- A message that is no report goes to every port but its own, and only to those.
 pub others-go : (g : Gate) (q p : ℕ) (m : Message) → isReport (kindOf (m .mti)) ≡ false → (goesTo g q m p ≡ true) ↔ ((p < g .ports) × (p ≡ q → ⊥))
 unfolding goesTo
-others-go g q p m e = rw e (
+others-go g q p m e = rw (others-wanted g p m e) (
   λ t.
       let h = both (ltb p (g .ports)) (not (eqb p q) && true) t in
       let k = both (not (eqb p q)) true (h .1) in

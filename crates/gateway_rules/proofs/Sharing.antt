@@ -2,20 +2,19 @@
 use Prim.Native.Nat.{ℕ, _<_}
 use mathlib.Core.Path.{_≡_, refl, sym, ap, ap₂, _∙_, subst}
 use mathlib.Core.Logic.{⊎-elim}
-use mathlib.Core.Bool.{Bool, true, false, cond, not, _&&_, _||_, or-true, true≢false}
+use mathlib.Core.Bool.{Bool, true, false, cond, not, _&&_, true≢false}
 use mathlib.Core.List.{List, [], _∷_, _++_, append-nil}
 use borrow.Author.Tests.{eq-eqb}
 use Rattle.range.specs.declared.Block.{Block}
 use Rattle.range.specs.Range.{blockOf}
-use Rattle.message.specs.Refusals.{firstOf, answered}
-use Rattle.message.specs.Mti.{isRestart, kindOf}
+use Rattle.basics.specs.Refusals.{firstOf, answered}
 use Rattle.message.specs.Reading.{messageIn}
-use Rattle.message.specs.Announcing.{announcementOf}
 use Rattle.gateway_rules.specs.State.{Gate, startOf}
-use Rattle.gateway_rules.specs.Step.{without, Outcome, step, startTests, starting, start}
-use Rattle.gateway_rules.specs.History.{Entry, after, Heard, accepted, Announces, Restarts, Live, Opened, Reports, HeldBack, announcing, concerns, concerning}
+use Rattle.basics.specs.Lists.{without}
+use Rattle.gateway_rules.specs.Step.{Outcome, step, startTests, starting, start}
+use Rattle.gateway_rules.specs.History.{Entry, after, Heard, accepted, Announces, Restarts, Live, Opened, Reports, HeldBack, changing, concerns, concerning}
 use Rattle.gateway_rules.proofs.OwnLines.{without-append}
-use Rattle.histories.proofs.Sinces.{by-end}
+use Rattle.basics.proofs.Sinces.{by-end}
 use Rattle.gateway_rules.proofs.Holding.{live-new, live-old, live-end, true-or-false}
 use Rattle.gateway_rules.proofs.Demand3.{demand-3}
 
@@ -23,10 +22,10 @@ use Rattle.gateway_rules.proofs.Demand3.{demand-3}
 
 concerns-announced : {p n : ℕ} {b : Block} {s : Heard} → Announces p n b s → concerns p s ≡ true
 concerns-announced {p} {s = s} a =
-    ap₂ (λ (x y : Bool). x && y) (eq-eqb (s .port) p (a .here)) (ap (λ (x : Bool). isRestart (kindOf (s .message .mti)) || x) (ap announcing (a .block)) ∙ or-true (isRestart (kindOf (s .message .mti))))
+    ap₂ (λ (x y : Bool). x && y) (eq-eqb (s .port) p (a .here)) (ap changing (a .says))
 
 concerns-restarted : {p n : ℕ} {s : Heard} → Restarts p n s → concerns p s ≡ true
-concerns-restarted {p} {s = s} r = ap₂ (λ (x y : Bool). x && y) (eq-eqb (s .port) p (r .here)) (ap (λ (x : Bool). x || announcing (announcementOf (s .message))) (r .complete))
+concerns-restarted {p} {s = s} r = ap₂ (λ (x y : Bool). x && y) (eq-eqb (s .port) p (r .here)) (ap changing (r .says))
 
 -- ---- one message later
 

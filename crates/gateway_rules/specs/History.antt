@@ -1,24 +1,23 @@
 -- Histories: accepted messages, live announcements and opened ports (document 01, "Gateway": "For demand 3").
 use Prim.Native.Nat.{ℕ}
 use mathlib.Core.Path.{_≡_}
-use mathlib.Core.Bool.{Bool, true, false, cond, not, _&&_, _||_}
+use mathlib.Core.Bool.{Bool, true, false, cond, not, _&&_}
 use mathlib.Core.List.{List, [], _∷_, _++_}
 use lib.Dec.{eqb, ltb}
 use lib.ListN.{length}
-use Rattle.histories.specs.Since.{Since}
+use Rattle.basics.specs.Since.{Since}
 use Rattle.range.specs.declared.Block.{Block}
 use Rattle.range.specs.Range.{inBlock}
-use Rattle.message.specs.declared.Field.the-variants.{Present}
 use Rattle.message.specs.declared.Message.{Message}
 use Rattle.message.specs.declared.Reading.{Reading}
 use Rattle.message.specs.declared.Reading.the-variants.{Read, Refused}
-use Rattle.message.specs.declared.Announcement.{Announcement}
-use Rattle.message.specs.declared.Announcement.the-variants.{Of, Nothing}
-use Rattle.message.specs.Mti.{isRestart, isReport, kindOf}
+use Rattle.message.specs.declared.Saying.{Saying}
+use Rattle.message.specs.declared.Saying.the-variants.{Report, Announcement, Restart, Inquiry, InquiryForAll, Learn, Nothing}
 use Rattle.message.specs.Reading.{readOf}
-use Rattle.message.specs.Announcing.{announcementOf}
+use Rattle.message.specs.Saying.{saidBy}
 use Rattle.gateway_rules.specs.State.{Gate, full}
-use Rattle.gateway_rules.specs.Step.{line, has, without, taken, step}
+use Rattle.gateway_rules.specs.Step.{line, has, taken, step}
+use Rattle.basics.specs.Lists.{without}
 
 -- A history is a list of (port, bytes), refused ones among them, the oldest first.
 pub record Entry : Type 0 where
@@ -50,12 +49,12 @@ accepted ports (e ∷ h) = cond (ltb (e .port) ports) (heardAt (e .port) (readOf
 pub record Announces (p n : ℕ) (b : Block) (s : Heard) : Type 0 where
   pub here : s .port ≡ p
   pub sender : s .message .source ≡ n
-  pub block : announcementOf (s .message) ≡ Of b
+  pub says : saidBy (s .message) ≡ Announcement b
 
 pub record Restarts (p n : ℕ) (s : Heard) : Type 0 where
   pub here : s .port ≡ p
   pub node : s .message .source ≡ n
-  pub complete : isRestart (kindOf (s .message .mti)) ≡ true
+  pub says : saidBy (s .message) ≡ Restart
 
 -- ---- since
 
@@ -66,17 +65,17 @@ Live h p n b = Since (λ _ s. Announces p n b s) (Restarts p n) h
 -- ---- opened by a full table
 
 -- The state that accepted messages have left, by the steps.
-abbrev pub told : Gate → List Heard → Gate
-told g [] = g
-told g (s ∷ h) = told (taken g (s .port) (s .message)) h
+abbrev pub leftBy : Gate → List Heard → Gate
+leftBy g [] = g
+leftBy g (s ∷ h) = leftBy (taken g (s .port) (s .message)) h
 
 -- An announcement at p for which there is no line meets a full table.
 pub record Overflows (g : Gate) (p : ℕ) (before : List Heard) (s : Heard) : Type 0 where
   pub node : ℕ
   pub block : Block
   pub announces : Announces p node block s
-  pub new : has (told g before .lines) (line p node block) ≡ false
-  pub met : length (told g before .lines) ≡ full
+  pub new : has (leftBy g before .lines) (line p node block) ≡ false
+  pub met : length (leftBy g before .lines) ≡ full
 
 unfoldable pub Opened : Gate → List Heard → ℕ → Type 0
 Opened g h p = Since (Overflows g p) (λ _. ⊥) h
@@ -85,8 +84,7 @@ Opened g h p = Since (Overflows g p) (λ _. ⊥) h
 
 -- A report of an event.
 pub record Reports (e : ℕ) (m : Message) : Type 0 where
-  pub report : isReport (kindOf (m .mti)) ≡ true
-  pub event : m .event ≡ Present e
+  pub says : saidBy m ≡ Report e
 
 -- Its event is not automatic, no live announcement at the port holds it, and the port was never opened by a full table.
 pub record HeldBack (g : Gate) (h : List Heard) (p e : ℕ) : Type 0 where
@@ -96,13 +94,19 @@ pub record HeldBack (g : Gate) (h : List Heard) (p e : ℕ) : Type 0 where
 
 -- ---- sharing
 
-abbrev pub announcing : Announcement → Bool
-announcing (Of b) = true
-announcing Nothing = false
+-- Announcements and Initialization Completes.
+abbrev pub changing : Saying → Bool
+changing (Announcement b) = true
+changing Restart = true
+changing (Report e) = false
+changing (Inquiry role e) = false
+changing (InquiryForAll destination) = false
+changing (Learn e) = false
+changing Nothing = false
 
--- The accepted announcements and Initialization Completes at port p, in the same order.
+-- The accepted ones at port p, in the same order.
 abbrev pub concerns : ℕ → Heard → Bool
-concerns p s = eqb (s .port) p && (isRestart (kindOf (s .message .mti)) || announcing (announcementOf (s .message)))
+concerns p s = eqb (s .port) p && changing (saidBy (s .message))
 
 unfoldable pub concerning : ℕ → List Heard → List Heard
 concerning p h = without (λ s. not (concerns p s)) h

@@ -6,17 +6,14 @@ use lib.Dec.{eqb, leb, ltb}
 use lib.ListN.{length}
 use Rattle.range.specs.declared.Block.{Block}
 use Rattle.range.specs.Range.{inBlock, sameBlock}
-use Rattle.message.specs.declared.Field.{Field}
-use Rattle.message.specs.declared.Field.the-variants.{Present, Absent}
 use Rattle.message.specs.declared.Message.{Message}
-use Rattle.message.specs.declared.Announcement.{Announcement}
-use Rattle.message.specs.declared.Announcement.the-variants.{Of, Nothing}
-use Rattle.message.specs.Mti.{isRestart, isReport, kindOf}
+use Rattle.message.specs.declared.Saying.{Saying}
+use Rattle.message.specs.declared.Saying.the-variants.{Report, Announcement, Restart, Inquiry, InquiryForAll, Learn, Nothing}
 use Rattle.message.specs.Reading.{messageIn, readTests}
-use Rattle.message.specs.Announcing.{announcementOf}
-use Rattle.message.specs.Refusals.{Test, refuse, firstOf, answered}
+use Rattle.message.specs.Saying.{saidBy}
+use Rattle.basics.specs.Refusals.{Test, refuse, firstOf, answered}
 use Rattle.gateway_rules.specs.declared.Line.{Line}
-use Rattle.sets.specs.Sets.{any}
+use Rattle.basics.specs.Lists.{any, without}
 use Rattle.gateway_rules.specs.State.{Gate, full, badPorts, outOfBounds, startOf}
 
 -- ---- lines
@@ -34,11 +31,6 @@ has lines l = any (sameLine l) lines
 -- The lines of a node at a port.
 abbrev pub ownedAt : ℕ → ℕ → Line → Bool
 ownedAt port node l = eqb (l .port) port && eqb (l .node) node
-
--- The rest keeping their order.
-abbrev pub without : {A : Type 0} → (A → Bool) → List A → List A
-without test [] = []
-without test (x ∷ xs) = cond (test x) (without test xs) (x ∷ without test xs)
 
 -- ---- how a message changes the state
 
@@ -60,13 +52,18 @@ announce g l = cond (has (g .lines) l) g (cond (ltb (length (g .lines)) full) (a
 abbrev pub restart : Gate → ℕ → ℕ → Gate
 restart g q node = withLines g (without (ownedAt q node) (g .lines))
 
-abbrev pub hear : Gate → ℕ → ℕ → Announcement → Gate
-hear g q node (Of b) = announce g (line q node b)
+-- An announcement and a restart change the state; nothing else does.
+abbrev pub hear : Gate → ℕ → ℕ → Saying → Gate
+hear g q node (Announcement b) = announce g (line q node b)
+hear g q node Restart = restart g q node
+hear g q node (Report e) = g
+hear g q node (Inquiry role e) = g
+hear g q node (InquiryForAll destination) = g
+hear g q node (Learn e) = g
 hear g q node Nothing = g
 
--- Nothing else changes the state.
 unfoldable pub taken : Gate → ℕ → Message → Gate
-taken g q m = cond (isRestart (kindOf (m .mti))) (restart g q (m .source)) (hear g q (m .source) (announcementOf m))
+taken g q m = hear g q (m .source) (saidBy m)
 
 -- ---- where a message goes
 
@@ -78,13 +75,18 @@ lineHolds p e l = eqb (l .port) p && inBlock (l .block) e
 unfoldable pub wants : Gate → ℕ → ℕ → Bool
 wants g p e = inBlock (g .automatic) e || (g .marked p || any (lineHolds p e) (g .lines))
 
-abbrev pub wantsReport : Gate → ℕ → Field → Bool
-wantsReport g p (Present e) = wants g p e
-wantsReport g p Absent = true
-
 -- Every other message goes to all ports but q.
+abbrev pub wantedAt : Gate → ℕ → Saying → Bool
+wantedAt g p (Report e) = wants g p e
+wantedAt g p (Announcement b) = true
+wantedAt g p Restart = true
+wantedAt g p (Inquiry role e) = true
+wantedAt g p (InquiryForAll destination) = true
+wantedAt g p (Learn e) = true
+wantedAt g p Nothing = true
+
 unfoldable pub goesTo : Gate → ℕ → Message → ℕ → Bool
-goesTo g q m p = ltb p (g .ports) && (not (eqb p q) && cond (isReport (kindOf (m .mti))) (wantsReport g p (m .event)) true)
+goesTo g q m p = ltb p (g .ports) && (not (eqb p q) && wantedAt g p (saidBy m))
 
 -- ---- the step
 

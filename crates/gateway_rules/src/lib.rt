@@ -1,29 +1,10 @@
-// The gateway's state, as the code has it. What the box does with it is defined in specs/ and proved in proofs/.
+// A line of the table. What the box does with its lines is defined in specs/ and proved in proofs/.
 use range::Block;
 
-// A line of the table: what a node announced at a port.
+// What a node announced at a port.
 #[repr(C)]
 pub struct Line {
     pub port: u8,
     pub node: u64,
     pub block: Block,
-}
-
-// The state but for the lines themselves. Bit p of marks is the open mark of port p.
-#[repr(C)]
-pub struct Head {
-    pub ports: u8,
-    pub marks: u8,
-    pub automatic: Block,
-    pub count: usize,
-}
-
-// Line i is at place i of four lists, which is less to copy than a list of lines. Places past the count are no part of the state.
-#[repr(C)]
-pub struct Gateway {
-    pub head: Head,
-    pub nodes: [u64; 256],
-    pub starts: [u64; 256],
-    pub ports: [u8; 256],
-    pub sizes: [u8; 256],
 }

@@ -9,18 +9,13 @@ use native.Mathlib.Numerals.{add-one}
 use native.Mathlib.Omega.{arith}
 use borrow.Author.Tests.{leb-true, eqb-true}
 use lib.Dec.{leb}
-use lib.ListN.{length, take, drop, length-take}
+use lib.ListN.{length, take, drop}
 use Rattle.numbers.specs.Numbers.{Bytes}
-use Rattle.numbers.proofs.Laws.{number-below, part-bytes}
-use Rattle.range.proofs.Laws.{both}
-use Rattle.message.specs.Reading.{numberAt}
+use Rattle.numbers.proofs.Laws.{number-at-below}
+use Rattle.basics.proofs.Bools.{both}
 use Rattle.replay.specs.Files.{entryCount, entryAt, lengthIn, bodyAt, bodyIn, goodFile}
 
 -- ---- where the bodies stand
-
--- A number of two bytes.
-number-small : (s : List ℕ) (at : ℕ) → Bytes s → numberAt s at 2 < 65536
-number-small s at h = number-below (take 2 (drop at s)) 2 (part-bytes s at 2 h) (omega (arith, length-take 2 (drop at s)))
 
 module _ (s : List ℕ) where
   pub body-first : bodyAt s 0 ≡ entryAt (entryCount s)
@@ -33,8 +28,8 @@ module _ (s : List ℕ) where
 
   pub body-small : (i : ℕ) → Bytes s → bodyAt s i + lengthIn s i ≤ entryAt (entryCount s) + 65536 * (i + 1)
   unfolding bodyAt
-  body-small zero h = omega (arith, number-small s (entryAt 0 + 1) h)
-  body-small (suc i) h = omega (arith, body-small i h, number-small s (entryAt (suc i) + 1) h)
+  body-small zero h = omega (arith, number-at-below s (entryAt 0 + 1) 2 h)
+  body-small (suc i) h = omega (arith, body-small i h, number-at-below s (entryAt (suc i) + 1) 2 h)
 
   -- A later body stands no earlier.
   body-later : (i n : ℕ) → i ≤ n → bodyAt s i ≤ bodyAt s n

@@ -6,18 +6,20 @@ use native.Mathlib.Nat.{sub-zero}
 use native.Mathlib.Numerals.{add-one}
 use native.Mathlib.Omega.{arith}
 use lib.ListN.{length, take, drop}
+use Rattle.range.specs.Range.{house}
 use Rattle.text.specs.declared.Place.{Place}
 use Rattle.text.specs.Text.{filled, endOf}
 use Rattle.text.proofs.Laws.{Remains, remains-next, remains-none}
-use Rattle.gateway_rules.specs.State.{Gate, Lists, lineAt, gateIn, gateOf, startOf}
+use Rattle.gateway_rules.specs.State.{Gate, startOf}
+use Rattle.gateway.specs.State.{Lists, lineAt, gateIn, gateOf, headWith}
 use Rattle.gateway_rules.specs.Step.{Outcome, start, step}
-use Rattle.gateway_rules.specs.declared.Head.{Head}
+use Rattle.gateway.specs.declared.state.Head.{Head}
 use Rattle.gateway.specs.declared.Answer.{Answer}
 use Rattle.gateway.specs.declared.LentAnswer.{LentAnswer}
-use Rattle.gateway.specs.Answers.{Seen, seenIn, headWith, seenLent, seenOf}
-use Rattle.gateway_rules.proofs.Lists.{count-places}
+use Rattle.gateway.specs.Answers.{Seen, seenIn, seenLent, seenOf}
+use Rattle.basics.proofs.Each.{each-length}
 use Rattle.replay.specs.Files.{entryCount, entryAt, portIn, lengthIn, bodyAt}
-use Rattle.replay.specs.Lines.{ports, house, lineOf, lineFor, stepAt, linesFrom}
+use Rattle.replay.specs.Lines.{ports, lineOf, lineFor, stepAt, linesFrom}
 use Rattle.replay.proofs.Good.{Good, body-first, body-next, body-part, body-within}
 
 -- ---- the lines of the entries from an entry on
@@ -35,7 +37,7 @@ module _ (i : ℕ) (g : Gate) (s : List ℕ) where
 line-for : (i : ℕ) (o : Outcome) (head : Head) (a : LentAnswer) (t : Lists) → seenLent head a t ≡ seenOf o → lineOf i (a .refusal) (a .sent) (a .count) ≡ lineFor i o
 unfolding gateIn
 line-for i o head a t e =
-    let count = sym (count-places (a .count) (lineAt t)) ∙ ap (λ (x : Seen). length (x .gate .lines)) e in
+    let count = sym (each-length (a .count) (lineAt t)) ∙ ap (λ (x : Seen). length (x .gate .lines)) e in
     λ z. lineOf i (e z .refusal) (e z .sent) (count z)
 
 -- A start with 4 ports is not refused.

@@ -8,7 +8,8 @@ use Rattle.text.specs.declared.Place.{Place}
 use Rattle.text.specs.Text.{filledAt, endAt, filled, endOf, badFile}
 use Rattle.gateway_rules.specs.State.{startOf}
 use Rattle.replay.specs.Files.{entryCount, goodFile}
-use Rattle.replay.specs.Lines.{ports, house, linesFrom, textOf}
+use Rattle.range.specs.Range.{house}
+use Rattle.replay.specs.Lines.{ports, linesFrom, textOf}
 
 -- A piece is put in from the first byte on.
 abbrev Puts : List ℕ → List ℕ → Place → List ℕ → Type 0

@@ -4,7 +4,7 @@ use mathlib.Core.Bool.{Bool, _&&_}
 use mathlib.Core.List.{List}
 use lib.Dec.{eqb, leb}
 use lib.ListN.{length, getD, take, drop}
-use Rattle.message.specs.Reading.{numberAt}
+use Rattle.numbers.specs.Numbers.{numberAt}
 
 -- A 2-byte count n, then n entries of port (1 byte) and length (2 bytes).
 abbrev pub entryCount : List ℕ → ℕ

@@ -4,8 +4,9 @@ use mathlib.Core.Bool.{cond}
 use mathlib.Core.List.{List, [], _∷_, _++_}
 use lib.Dec.{eqb}
 use lib.ListN.{length}
-use Rattle.range.specs.Range.{bit}
-use Rattle.sets.specs.Sets.{setOf}
+use Rattle.numbers.specs.Bits.{bit}
+use Rattle.basics.specs.Sets.{setOf}
+use Rattle.range.specs.Range.{house}
 use Rattle.text.specs.Text.{decimal, space, newLine, badFile}
 use Rattle.gateway_rules.specs.State.{Gate, startOf}
 use Rattle.gateway_rules.specs.Step.{Outcome, step}
@@ -18,9 +19,6 @@ refusedWord = 114 ∷ 101 ∷ 102 ∷ 117 ∷ 115 ∷ 101 ∷ 100 ∷ 32 ∷ []
 -- It starts 4 ports with the house block.
 abbrev pub ports : ℕ
 ports = 4
-
-abbrev pub house : ℕ
-house = 0x010000000000FFFF
 
 -- One digit per port from 0, 1 for sent.
 abbrev pub portDigits : ℕ → List ℕ

@@ -3,18 +3,18 @@ ghost use mathlib.Core.Path.{_≡_};
 ghost use mathlib.Core.Bool.{true};
 ghost use Prim.Native.Nat.{_≤_};
 ghost use lib.ListN.{length};
+ghost use Rattle.range.specs.Range.{house};
 ghost use Rattle.text.specs.Text.{filled, endOf};
-ghost use Rattle.gateway_rules.specs.State.{gateOf, startOf};
+ghost use Rattle.gateway.specs.State.{gateOf};
+ghost use Rattle.gateway_rules.specs.State.{startOf};
 ghost use Rattle.replay.specs.Files.{entryCount, goodFile};
-ghost use Rattle.replay.specs.Lines.{ports, house, linesFrom};
-use crate::files;
+ghost use Rattle.replay.specs.Lines.{ports, linesFrom};
 use crate::lines;
-use gateway_rules::Gateway;
+use gateway::Gateway;
+use range::HOUSE;
 use text::Place;
 
 const PORTS: u8 = 4;
-
-const HOUSE: u64 = 0x0100_0000_0000_FFFF;
 
 // Puts the line of each entry into text.
 pub(crate) fn run(file: &[u8], first: Place, text: &mut [u8]) -> Place
@@ -41,13 +41,13 @@ fn from(gateway: Gateway, file: &[u8], first: Place, text: &mut [u8]) -> Place
     let mut ports = gateway.ports;
     let mut sizes = gateway.sizes;
     let mut next = first;
-    let count = files::number(file, 0, 2) as usize;
+    let count = numbers::read_at(file, 0, 2) as usize;
     let mut at = 2 + count * 3;
     let mut i = 0;
     while i < count {
         let entry = 2 + i * 3;
         let port = file[entry];
-        let length = files::number(file, entry + 1, 2) as usize;
+        let length = numbers::read_at(file, entry + 1, 2) as usize;
         let end = at + length;
         let a = gateway::receive_lent(
             head,

@@ -1,8 +1,7 @@
-// Whether a trial file is good, and the numbers in it.
+// Whether a trial file is good.
 ghost use mathlib.Core.Path.{_≡_};
-ghost use Prim.Native.Nat.{_+_, _≤_};
+ghost use Prim.Native.Nat.{_≤_};
 ghost use lib.ListN.{length};
-ghost use Rattle.message.specs.Reading.{numberAt};
 ghost use Rattle.replay.specs.Files.{entryCount, entryAt, bodyAt, goodFile};
 
 pub(crate) fn good(file: &[u8]) -> bool
@@ -14,7 +13,7 @@ pub(crate) fn good(file: &[u8]) -> bool
     if file.len() < 2 {
         return false;
     }
-    let count = number(file, 0, 2) as usize;
+    let count = numbers::read_at(file, 0, 2) as usize;
     if 1000 < count {
         return false;
     }
@@ -33,16 +32,8 @@ fn end(file: &[u8], count: usize) -> usize
     let mut i = 0;
     while i < count {
         let entry = 2 + i * 3;
-        at += number(file, entry + 1, 2) as usize;
+        at += numbers::read_at(file, entry + 1, 2) as usize;
         i += 1;
     }
     at
-}
-
-// The number in so many bytes from a place on.
-pub(crate) fn number(file: &[u8], at: usize, width: usize) -> u64
-    requires { ⌜ (width ≤ 8) × (at + width ≤ length (now file)) ⌝ }
-    ensures { λ n. ⌜ n ≡ numberAt (now (file .entry)) at width ⌝ }
-{
-    numbers::read(&file[at..at + width])
 }

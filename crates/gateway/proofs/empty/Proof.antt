@@ -1,7 +1,8 @@
 -- No line before place 0, and no bit in 0.
 use mathlib.Core.List.{[]}
 use borrow.Author.Needs.{needs}
-use Rattle.gateway_rules.specs.State.{gateIn, firstPlaces}
+use Rattle.gateway.specs.State.{gateIn}
+use Rattle.basics.specs.Lists.{each}
 use Rattle.gateway.proofs.Bits.{no-bit}
 use Rattle.gateway.proofs.empty.Statement.{statement}
 use Rattle.gateway.proofs.empty.Tie as tie
@@ -10,7 +11,7 @@ block-of-requires : tie.Need-block-of-requires
 block-of-requires c κs = search needs
 
 returns : tie.Need-returns
-unfolding gateIn firstPlaces
+unfolding gateIn each
 returns c = λ i. record { ports = c .before .args .ports; automatic = c .block-of .ensures i; lines = []; marked = λ p. no-bit p i }
 
 pub empty-spec : {M : Type 1} → statement M

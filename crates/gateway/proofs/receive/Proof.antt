@@ -2,8 +2,8 @@
 use mathlib.Core.Path.{ap, _∙_}
 use borrow.Author.Needs.{needs}
 use denote.Ref.{now}
-use Rattle.gateway_rules.specs.State.{listsOf}
-use Rattle.gateway.specs.Answers.{Whole, headWith, seenOf}
+use Rattle.gateway.specs.State.{listsOf, Whole, headWith}
+use Rattle.gateway.specs.Answers.{seenOf}
 use Rattle.gateway.proofs.Lending.{whole-step}
 use Rattle.gateway.proofs.receive.Statement.{statement}
 use Rattle.gateway.proofs.receive.Tie as tie
@@ -25,9 +25,10 @@ receive-lent-requires c κs = search needs
 
 returns : tie.Need-returns
 returns c =
-    let a = c .before .before .before .before .before .before .before .before .before .before .before .before .before .before .before .before .args in
+    let p = c .before .before .before .before .before .before .before .before .before .before .before .before .before .before .before .before in
+    let a = p .args in
     let t = listsOf (a .gateway) in
-    let all : Whole t = (search (needs, c .before .before .before .before .before .before .before .before .before .before .before .before .before .before .before .before .good .0), search (needs, c .before .before .before .before .before .before .before .before .before .before .before .before .before .before .before .before .good .0), search (needs, c .before .before .before .before .before .before .before .before .before .before .before .before .before .before .before .before .good .0), search (needs, c .before .before .before .before .before .before .before .before .before .before .before .before .before .before .before .before .good .0)) in
+    let all : Whole t = (search (needs, p .good .0), search (needs, p .good .0), search (needs, p .good .0), search (needs, p .good .0)) in
     let kept = c .before .before .before .before .receive-lent .ensures .1 in (
       c .before .before .before .before .receive-lent .ensures .0 ∙ ap seenOf (whole-step (a .gateway .head) t (a .port) (now (a .bytes)) all),
       λ refused. λ i. record { head = headWith (a .gateway .head) (kept refused .0 i) (kept refused .1 i); nodes = kept refused .2 i .nodes; starts = kept refused .2 i .starts; ports = kept refused .2 i .ports; sizes = kept refused .2 i .sizes },

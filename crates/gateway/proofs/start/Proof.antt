@@ -4,8 +4,8 @@ use mathlib.Core.Path.{_≡_, sym, ap, _∙_}
 use mathlib.Core.Bool.{Bool, true, false}
 use mathlib.Core.List.{[], _∷_}
 use borrow.Author.Needs.{needs}
-use Rattle.message.specs.Refusals.{refuse, firstOf, answered}
-use Rattle.sets.proofs.Sets.{nobody}
+use Rattle.basics.specs.Refusals.{refuse, firstOf, answered}
+use Rattle.basics.proofs.Sets.{nobody}
 use Rattle.gateway_rules.specs.State.{Gate, badPorts, startOf}
 use Rattle.gateway_rules.specs.Step.{start, starting}
 use Rattle.gateway.specs.Answers.{Seen, seenOf}

@@ -4,16 +4,15 @@ use mathlib.Core.Path.{_≡_, sym, ap, _∙_}
 use mathlib.Core.Bool.{Bool, false, _||_}
 use native.Mathlib.Omega.{arith}
 use borrow.Author.Needs.{needs}
-use denote.Ref.{now}
-use Rattle.sets.specs.Sets.{any}
-use Rattle.gateway_rules.specs.State.{lists, lineAt}
-use Rattle.gateway.specs.Answers.{badAt, linesIn}
+use Rattle.basics.specs.Lists.{any}
+use Rattle.gateway.specs.State.{lists, lineAt, linesIn, held}
+use Rattle.gateway_rules.specs.State.{badLine}
 use Rattle.gateway.proofs.Places.{any-more, any-at, no-places, line-tells}
 use Rattle.gateway.proofs.bounds.bad_lines.Statement.{statement}
 use Rattle.gateway.proofs.bounds.bad_lines.Tie as tie
 
 abbrev Inv-loop : tie.InvT-loop
-Inv-loop count nodes starts ports sizes below i₀ i = (i ≤ count) × (any (badAt below) (linesIn i (lists nodes starts ports sizes)) ≡ false)
+Inv-loop count nodes starts ports sizes below i₀ i = (i ≤ count) × (any (badLine below) (linesIn i (lists nodes starts ports sizes)) ≡ false)
 
 abbrev μ-loop : tie.MeasureT-loop
 μ-loop count nodes starts ports sizes below i₀ i = count - i
@@ -21,8 +20,8 @@ abbrev μ-loop : tie.MeasureT-loop
 loop-holds : tie.Need-loop-holds Inv-loop μ-loop
 loop-holds c =
     let a = c .before .before .before .before .args in
-    let t = lists (now (a .nodes)) (now (a .starts)) (now (a .ports)) (now (a .sizes)) in
-    (omega arith, ap (any (badAt (a .below))) (no-places (lineAt t)))
+    let t = held (a .nodes) (a .starts) (a .ports) (a .sizes) in
+    (omega arith, ap (any (badLine (a .below))) (no-places (lineAt t)))
 
 line-at-requires : tie.Need-line-at-requires Inv-loop μ-loop
 line-at-requires c κs = (c .before .before .before .before .before .before .pre .1, omega arith)
@@ -36,8 +35,8 @@ bad-line-requires c κs = search needs
 returns : tie.Need-returns Inv-loop μ-loop
 returns c =
     let a = c .before .before .before .before .before .before .before .before .before .args in
-    let t = lists (now (a .nodes)) (now (a .starts)) (now (a .ports)) (now (a .sizes)) in
-    sym (any-at (badAt (a .below)) (a .count) (lineAt t) (c .before .before .before .before .loop .i) (omega arith) (line-tells (badAt (a .below)) (lineAt t (c .before .before .before .before .loop .i)) (c .before .before .line-at .ensures) (c .before .bad-line .ensures) (c .if1 .taken)))
+    let t = held (a .nodes) (a .starts) (a .ports) (a .sizes) in
+    sym (any-at (badLine (a .below)) (a .count) (lineAt t) (c .before .before .before .before .loop .i) (omega arith) (line-tells (badLine (a .below)) (lineAt t (c .before .before .before .before .loop .i)) (c .before .before .line-at .ensures) (c .before .bad-line .ensures) (c .if1 .taken)))
 
 loop-less : tie.Need-loop-less Inv-loop μ-loop
 loop-less c = omega arith
@@ -45,17 +44,17 @@ loop-less c = omega arith
 loop-again : tie.Need-loop-again Inv-loop μ-loop
 loop-again c =
     let a = c .before .before .before .before .before .before .before .before .before .args in
-    let t = lists (now (a .nodes)) (now (a .starts)) (now (a .ports)) (now (a .sizes)) in
+    let t = held (a .nodes) (a .starts) (a .ports) (a .sizes) in
     let l = c .before .before .before .before .loop in
-    (omega arith, any-more (badAt (a .below)) (l .i) (lineAt t) ∙ ap (λ (y : Bool). y || badAt (a .below) (lineAt t (l .i))) (l .inv .1) ∙ line-tells (badAt (a .below)) (lineAt t (c .before .before .before .before .loop .i)) (c .before .before .line-at .ensures) (c .before .bad-line .ensures) (c .if1 .left))
+    (omega arith, any-more (badLine (a .below)) (l .i) (lineAt t) ∙ ap (λ (y : Bool). y || badLine (a .below) (lineAt t (l .i))) (l .inv .1) ∙ line-tells (badLine (a .below)) (lineAt t (c .before .before .before .before .loop .i)) (c .before .before .line-at .ensures) (c .before .bad-line .ensures) (c .if1 .left))
 
 returns-2 : tie.Need-returns-2 Inv-loop μ-loop
 returns-2 c =
     let a = c .before .before .before .before .before .before .args in
-    let t = lists (now (a .nodes)) (now (a .starts)) (now (a .ports)) (now (a .sizes)) in
+    let t = held (a .nodes) (a .starts) (a .ports) (a .sizes) in
     let l = c .before .loop in
     let all : l .i ≡ a .count = omega arith in
-    sym (l .inv .1) ∙ ap (λ (k : ℕ). any (badAt (a .below)) (linesIn k t)) all
+    sym (l .inv .1) ∙ ap (λ (k : ℕ). any (badLine (a .below)) (linesIn k t)) all
 
 pub bad-lines-spec : {M : Type 1} → statement M
 bad-lines-spec =

@@ -3,18 +3,15 @@ use Prim.Native.Nat.{ℕ, _-_, _≤_}
 use mathlib.Core.Path.{_≡_, refl, sym, ap, _∙_}
 use mathlib.Core.Bool.{Bool, _&&_}
 use native.Mathlib.Omega.{arith}
-use lib.Dec.{eqb, leb}
+use lib.Dec.{leb}
 use borrow.Author.Tests.{eq-eqb, ne-eqb, le-leb, lt-leb}
-use Rattle.gateway.proofs.Below.{top-fails, top-passes}
-use Rattle.sets.specs.Sets.{anyBelow}
-use Rattle.range.specs.Range.{bit}
+use Rattle.basics.proofs.Below.{top-fails, top-passes}
+use Rattle.basics.specs.Sets.{anyBelow, inSet}
 use Rattle.gateway.proofs.bounds.stray_mark.Statement.{statement}
 use Rattle.gateway.proofs.bounds.stray_mark.Tie as tie
 
--- No mark from port p on is astray.
-
 abbrev Inv-loop : tie.InvT-loop
-Inv-loop marks ports p₀ p = (p ≤ 8) × (anyBelow 8 (λ q. leb ports q && eqb (bit q marks) 1) ≡ anyBelow p (λ q. leb ports q && eqb (bit q marks) 1))
+Inv-loop marks ports p₀ p = (p ≤ 8) × (anyBelow 8 (λ q. leb ports q && inSet marks q) ≡ anyBelow p (λ q. leb ports q && inSet marks q))
 
 abbrev μ-loop : tie.MeasureT-loop
 μ-loop marks ports p₀ p = p
@@ -32,7 +29,7 @@ loop-again : tie.Need-loop-again Inv-loop μ-loop
 loop-again c =
     let a = c .before .before .before .args in
     let l = c .before .before .loop in
-    (omega arith, l .inv .1 ∙ top-fails (λ q. leb (a .ports) q && eqb (bit q (a .marks)) 1) (l .p) (omega arith) (ap (λ (t : Bool). t && eqb (bit (l .p - 1) (a .marks)) 1) (lt-leb (a .ports) (l .p - 1) (c .if1 .taken))))
+    (omega arith, l .inv .1 ∙ top-fails (λ q. leb (a .ports) q && inSet (a .marks) q) (l .p) (omega arith) (ap (λ (t : Bool). t && inSet (a .marks) (l .p - 1)) (lt-leb (a .ports) (l .p - 1) (c .if1 .taken))))
 
 shr-if2 : tie.Need-shr-if2 Inv-loop μ-loop
 shr-if2 c = omega arith
@@ -41,7 +38,7 @@ returns : tie.Need-returns Inv-loop μ-loop
 returns c =
     let a = c .before .before .before .before .args in
     let l = c .before .before .before .loop in
-    sym (l .inv .1 ∙ top-passes (λ q. leb (a .ports) q && eqb (bit q (a .marks)) 1) (l .p) (omega arith) (rw (le-leb (a .ports) (l .p - 1) (c .before .if1 .left)) (eq-eqb (bit (l .p - 1) (a .marks)) 1 (c .if2 .taken))))
+    sym (l .inv .1 ∙ top-passes (λ q. leb (a .ports) q && inSet (a .marks) q) (l .p) (omega arith) (rw (le-leb (a .ports) (l .p - 1) (c .before .if1 .left)) (eq-eqb _ 1 (c .if2 .taken))))
 
 loop-less-2 : tie.Need-loop-less-2 Inv-loop μ-loop
 loop-less-2 c = omega arith
@@ -50,13 +47,13 @@ loop-again-2 : tie.Need-loop-again-2 Inv-loop μ-loop
 loop-again-2 c =
     let a = c .before .before .before .before .args in
     let l = c .before .before .before .loop in
-    (omega arith, l .inv .1 ∙ top-fails (λ q. leb (a .ports) q && eqb (bit q (a .marks)) 1) (l .p) (omega arith) (rw (le-leb (a .ports) (l .p - 1) (c .before .if1 .left)) (ne-eqb (bit (l .p - 1) (a .marks)) 1 (c .if2 .left))))
+    (omega arith, l .inv .1 ∙ top-fails (λ q. leb (a .ports) q && inSet (a .marks) q) (l .p) (omega arith) (rw (le-leb (a .ports) (l .p - 1) (c .before .if1 .left)) (ne-eqb _ 1 (c .if2 .left))))
 
 returns-2 : tie.Need-returns-2 Inv-loop μ-loop
 returns-2 c =
     let a = c .before .before .args in
     let l = c .before .loop in
-    let none : l .p ≡ 0 = omega arith in sym (l .inv .1 ∙ ap (λ (k : ℕ). anyBelow k (λ q. leb (a .ports) q && eqb (bit q (a .marks)) 1)) none)
+    let none : l .p ≡ 0 = omega arith in sym (l .inv .1 ∙ ap (λ (k : ℕ). anyBelow k (λ q. leb (a .ports) q && inSet (a .marks) q)) none)
 
 pub stray-mark-spec : {M : Type 1} → statement M
 stray-mark-spec =

@@ -3,10 +3,9 @@ use Prim.Native.Nat.{ℕ, _-_, _≤_}
 use mathlib.Core.Path.{_≡_, sym, ap, _∙_}
 use native.Mathlib.Omega.{arith}
 use borrow.Author.Needs.{needs}
-use denote.Ref.{now}
-use Rattle.gateway_rules.specs.State.{lists}
-use Rattle.gateway_rules.specs.Step.{ownedAt, without}
-use Rattle.gateway.specs.Answers.{linesIn}
+use Rattle.gateway.specs.State.{lists, linesIn, held}
+use Rattle.gateway_rules.specs.Step.{ownedAt}
+use Rattle.basics.specs.Lists.{without}
 use Rattle.gateway.proofs.Kept.{Kept, none-passed, passed-over, kept-here}
 use Rattle.gateway.proofs.lines.without_owned.Statement.{statement}
 use Rattle.gateway.proofs.lines.without_owned.Tie as tie
@@ -20,7 +19,7 @@ abbrev μ-loop : tie.MeasureT-loop
 loop-holds : tie.Need-loop-holds Inv-loop μ-loop
 loop-holds c =
     let a = c .before .before .before .before .args in
-    let t = lists (now (a .nodes)) (now (a .starts)) (now (a .ports)) (now (a .sizes)) in
+    let t = held (a .nodes) (a .starts) (a .ports) (a .sizes) in
     (omega arith, omega arith, none-passed (a .port) (a .node) t (c .before .before .before .before .pre .1))
 
 line-at-requires : tie.Need-line-at-requires Inv-loop μ-loop
@@ -38,7 +37,7 @@ loop-less c = omega arith
 loop-again : tie.Need-loop-again Inv-loop μ-loop
 loop-again c =
     let a = c .before .before .before .before .before .before .before .before .before .before .before .before .before .args in
-    let t = lists (now (a .nodes)) (now (a .starts)) (now (a .ports)) (now (a .sizes)) in
+    let t = held (a .nodes) (a .starts) (a .ports) (a .sizes) in
     let l = c .before .before .before .before .before .before .before .before .loop in
     let there = lists (l .nodes) (l .starts) (l .ports) (l .sizes) in
     (omega arith, omega arith, passed-over (a .port) (a .node) t there (l .i) (l .j) (c .before .before .line-at .result) (l .inv .2) (c .before .before .line-at .ensures) (sym (c .before .owned .ensures) ∙ c .if1 .taken))
@@ -54,11 +53,12 @@ loop-less-2 c = omega arith
 
 loop-again-2 : tie.Need-loop-again-2 Inv-loop μ-loop
 loop-again-2 c =
-    let a = c .before .before .before .before .before .before .before .before .before .before .before .before .before .before .before .before .before .before .before .before .before .before .before .before .before .before .args in
-    let t = lists (now (a .nodes)) (now (a .starts)) (now (a .ports)) (now (a .sizes)) in
-    let l = c .before .before .before .before .before .before .before .before .before .before .before .before .before .before .before .before .before .before .before .before .before .loop in
+    let turn = c .before .before .before .before .before .before .before .before .before .before .before .before .before in
+    let a = turn .before .before .before .before .before .before .before .before .before .before .before .before .before .args in
+    let t = held (a .nodes) (a .starts) (a .ports) (a .sizes) in
+    let l = turn .before .before .before .before .before .before .before .before .loop in
     let there = lists (l .nodes) (l .starts) (l .ports) (l .sizes) in
-    (omega arith, omega arith, kept-here (a .port) (a .node) t there (l .i) (l .j) (c .before .before .before .before .before .before .before .before .before .before .before .before .before .before .before .line-at .result) (l .inv .2) (c .before .before .before .before .before .before .before .before .before .before .before .before .before .before .before .line-at .ensures) _ (sym (c .before .before .before .before .before .before .before .before .before .before .before .before .before .before .owned .ensures) ∙ c .before .before .before .before .before .before .before .before .before .before .before .before .before .if1 .left) (l .inv .1) (omega (arith, c .before .before .before .before .before .before .before .before .before .before .before .before .before .before .before .before .before .before .before .before .loop-test .taken, c .before .before .before .before .before .before .before .before .before .before .before .before .before .before .before .before .before .before .before .before .before .before .before .before .before .before .pre .0)) (c .before .before .before .before .before .before .before .before .put-line .ensures))
+    (omega arith, omega arith, kept-here (a .port) (a .node) t there (l .i) (l .j) (turn .before .before .line-at .result) (l .inv .2) (turn .before .before .line-at .ensures) _ (sym (turn .before .owned .ensures) ∙ turn .if1 .left) (l .inv .1) (omega (arith, turn .before .before .before .before .before .before .before .loop-test .taken, turn .before .before .before .before .before .before .before .before .before .before .before .before .before .pre .0)) (c .before .before .before .before .before .before .before .before .put-line .ensures))
 
 same-length : tie.Need-same-length Inv-loop μ-loop
 same-length c = c .before .loop .inv .2 .whole .0 ∙ sym (c .before .before .before .before .before .before .pre .1 .0)
@@ -75,7 +75,7 @@ same-length-4 c = c .before .loop .inv .2 .whole .3 ∙ sym (c .before .before .
 returns : tie.Need-returns Inv-loop μ-loop
 returns c =
     let a = c .before .before .before .before .before .before .args in
-    let t = lists (now (a .nodes)) (now (a .starts)) (now (a .ports)) (now (a .sizes)) in
+    let t = held (a .nodes) (a .starts) (a .ports) (a .sizes) in
     let l = c .before .loop in
     let all : l .i ≡ a .count = omega arith in
     l .inv .2 .stay ∙ ap (λ (k : ℕ). without (ownedAt (a .port) (a .node)) (linesIn k t)) all

@@ -5,9 +5,9 @@ use mathlib.Core.Bool.{not, _&&_}
 use native.Mathlib.Omega.{arith}
 use borrow.Author.Needs.{needs}
 use lib.Dec.{eqb, ltb}
-use Rattle.sets.proofs.Bits.{next-bit}
-use Rattle.sets.specs.Sets.{setOf, inSet}
-use Rattle.sets.proofs.Sets.{set-below}
+use Rattle.basics.proofs.Bits.{next-bit}
+use Rattle.basics.specs.Sets.{setOf, inSet}
+use Rattle.basics.proofs.Sets.{set-below}
 use Rattle.gateway.proofs.port_sets.others.Statement.{statement}
 use Rattle.gateway.proofs.port_sets.others.Tie as tie
 

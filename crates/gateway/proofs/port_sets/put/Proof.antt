@@ -4,7 +4,7 @@ use mathlib.Core.Path.{sym, ap}
 use native.Mathlib.Omega.{arith}
 use borrow.Author.Needs.{needs}
 use native.Mathlib.Nat.{add-zero}
-use Rattle.sets.proofs.Bits.{one-bit, bit-fits}
+use Rattle.basics.proofs.Bits.{one-bit, bit-fits}
 use Rattle.gateway.proofs.port_sets.put.Statement.{statement}
 use Rattle.gateway.proofs.port_sets.put.Tie as tie
 

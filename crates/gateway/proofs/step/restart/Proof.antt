@@ -2,11 +2,10 @@
 use Prim.Native.Nat.{ℕ}
 use mathlib.Core.Path.{_≡_}
 use borrow.Author.Needs.{needs}
-use denote.Ref.{now}
-use Rattle.gateway_rules.specs.declared.Head.{Head}
-use Rattle.gateway_rules.specs.State.{Lists, lists, gateIn}
-use Rattle.gateway_rules.specs.Step.{ownedAt, restart, without}
-use Rattle.gateway.specs.Answers.{headWith, linesIn}
+use Rattle.gateway.specs.declared.state.Head.{Head}
+use Rattle.gateway.specs.State.{Lists, gateIn, headWith, linesIn, held}
+use Rattle.gateway_rules.specs.Step.{ownedAt, restart}
+use Rattle.basics.specs.Lists.{without}
 use Rattle.gateway.proofs.InBounds.{head-good, few-lines}
 use Rattle.gateway.proofs.step.restart.Statement.{statement}
 use Rattle.gateway.proofs.step.restart.Tie as tie
@@ -18,9 +17,10 @@ restarted head t after count port node e = λ i. record { ports = head .ports; a
 
 without-owned-requires : tie.Need-without-owned-requires
 without-owned-requires c κs =
-    let a = c .before .before .before .before .before .before .before .before .args in
-    let t = lists (now (a .nodes)) (now (a .starts)) (now (a .ports)) (now (a .sizes)) in
-    (few-lines (a .head) (head-good (a .head) t (c .before .before .before .before .before .before .before .before .pre .1)), c .before .before .before .before .before .before .before .before .pre .0)
+    let p = c .before .before .before .before .before .before .before .before in
+    let a = p .args in
+    let t = held (a .nodes) (a .starts) (a .ports) (a .sizes) in
+    (few-lines (a .head) (head-good (a .head) t (p .pre .1)), p .pre .0)
 
 same-length : tie.Need-same-length
 same-length c = search needs
@@ -37,7 +37,7 @@ same-length-4 c = search needs
 returns : tie.Need-returns
 returns c =
     let a = c .before .before .before .before .before .before .before .before .before .before .before .before .before .before .before .before .before .args in
-    let t = lists (now (a .nodes)) (now (a .starts)) (now (a .ports)) (now (a .sizes)) in
+    let t = held (a .nodes) (a .starts) (a .ports) (a .sizes) in
     restarted (a .head) t _ (c .before .before .before .before .before .before .before .before .without-owned .result) (a .port) (a .node) (c .before .before .before .before .before .before .before .before .without-owned .ensures)
 
 pub restart-spec : {M : Type 1} → statement M

@@ -4,10 +4,10 @@ use mathlib.Core.Path.{sym, ap, _∙_}
 use native.Mathlib.Omega.{arith}
 use borrow.Author.Needs.{needs}
 use Rattle.text.proofs.Laws.{remains-length}
-use Rattle.gateway_rules.specs.State.{lists, listsOf, gateIn, gateOf}
-use Rattle.gateway.specs.Answers.{Whole, seenOf}
+use Rattle.gateway.specs.State.{lists, listsOf, gateIn, gateOf, Whole}
+use Rattle.gateway.specs.Answers.{seenOf}
 use Rattle.gateway.proofs.Lending.{whole-step}
-use Rattle.replay.proofs.Good.{good-file}
+use Rattle.replay.proofs.Good.{Good, good-file}
 use Rattle.replay.proofs.Running.{Running, running-start, running-within, running-next, running-end}
 use Rattle.replay.proofs.entries.from.Statement.{statement}
 use Rattle.replay.proofs.entries.from.Tie as tie
@@ -20,40 +20,44 @@ Inv-loop file text₀ head₀ nodes₀ starts₀ ports₀ sizes₀ next₀ count
 abbrev μ-loop : tie.MeasureT-loop
 μ-loop file text₀ head₀ nodes₀ starts₀ ports₀ sizes₀ next₀ count at₀ i₀ text head nodes starts ports sizes next at i = count - i
 
-number-requires : tie.Need-number-requires Inv-loop μ-loop
-number-requires c κs = omega (arith, good-file (c .before .before .before .before .before .before .before .args .file .now) (c .before .before .before .before .before .before .before .pre .0) .head)
+good : (p : tie.Start Inv-loop μ-loop) → Good (p .args .file .now)
+good p = good-file (p .args .file .now) (p .pre .0)
+
+read-at-requires : tie.Need-read-at-requires Inv-loop μ-loop
+read-at-requires c κs = tt
 
 mul-at : tie.Need-mul-at Inv-loop μ-loop
-mul-at c = omega (arith, good-file (c .before .before .before .before .before .before .before .before .args .file .now) (c .before .before .before .before .before .before .before .before .pre .0) .count, c .number .ensures)
+mul-at c = omega (arith, good (c .before .before .before .before .before .before .before .before) .count, c .read-at .ensures)
 
 add-at : tie.Need-add-at Inv-loop μ-loop
-add-at c = omega (arith, good-file (c .before .before .before .before .before .before .before .before .args .file .now) (c .before .before .before .before .before .before .before .before .pre .0) .count, c .number .ensures)
+add-at c = omega (arith, good (c .before .before .before .before .before .before .before .before) .count, c .read-at .ensures)
 
 loop-holds : tie.Need-loop-holds Inv-loop μ-loop
 loop-holds c =
-    let a = c .before .before .before .before .before .before .before .before .args in
-    let all : Whole (listsOf (a .gateway)) = (search (needs, c .before .before .before .before .before .before .before .before .good .0), search (needs, c .before .before .before .before .before .before .before .before .good .0), search (needs, c .before .before .before .before .before .before .before .before .good .0), search (needs, c .before .before .before .before .before .before .before .before .good .0)) in
-    (running-start (gateOf (a .gateway)) (a .file .now) (a .first) (a .text .now) (c .number .ensures) (c .before .before .before .before .before .before .before .before .pre .1), all)
+    let p = c .before .before .before .before .before .before .before .before in
+    let a = p .args in
+    let all : Whole (listsOf (a .gateway)) = (search (needs, p .good .0), search (needs, p .good .0), search (needs, p .good .0), search (needs, p .good .0)) in
+    (running-start (gateOf (a .gateway)) (a .file .now) (a .first) (a .text .now) (c .read-at .ensures) (p .pre .1), all)
 
 mul-entry : tie.Need-mul-entry Inv-loop μ-loop
-mul-entry c = omega (arith, good-file (c .before .before .before .before .before .before .before .before .before .before .args .file .now) (c .before .before .before .before .before .before .before .before .before .before .pre .0) .count, c .before .before .number .ensures, c .loop-test .taken)
+mul-entry c = omega (arith, good (c .before .before .before .before .before .before .before .before .before .before) .count, c .before .before .read-at .ensures, c .loop-test .taken)
 
 add-entry : tie.Need-add-entry Inv-loop μ-loop
-add-entry c = omega (arith, good-file (c .before .before .before .before .before .before .before .before .before .before .args .file .now) (c .before .before .before .before .before .before .before .before .before .before .pre .0) .count, c .before .before .number .ensures, c .loop-test .taken)
+add-entry c = omega (arith, good (c .before .before .before .before .before .before .before .before .before .before) .count, c .before .before .read-at .ensures, c .loop-test .taken)
 
 shared-slice-read-port : tie.Need-shared-slice-read-port Inv-loop μ-loop
-shared-slice-read-port c = omega (arith, good-file (c .before .before .before .before .before .before .before .before .before .before .before .args .file .now) (c .before .before .before .before .before .before .before .before .before .before .before .pre .0) .table, c .before .before .before .number .ensures, c .before .loop-test .taken)
+shared-slice-read-port c = omega (arith, good (c .before .before .before .before .before .before .before .before .before .before .before) .table, c .before .before .before .read-at .ensures, c .before .loop-test .taken)
 
-add-number : tie.Need-add-number Inv-loop μ-loop
-add-number c = omega (arith, good-file (c .before .before .before .before .before .before .before .before .before .before .before .args .file .now) (c .before .before .before .before .before .before .before .before .before .before .before .pre .0) .count, c .before .before .before .number .ensures, c .before .loop-test .taken)
+add-read-at : tie.Need-add-read-at Inv-loop μ-loop
+add-read-at c = omega (arith, good (c .before .before .before .before .before .before .before .before .before .before .before) .count, c .before .before .before .read-at .ensures, c .before .loop-test .taken)
 
-number-requires-2 : tie.Need-number-requires-2 Inv-loop μ-loop
-number-requires-2 c κs = omega (arith, good-file (c .before .before .before .before .before .before .before .before .before .before .before .args .file .now) (c .before .before .before .before .before .before .before .before .before .before .before .pre .0) .table, c .before .before .before .number .ensures, c .before .loop-test .taken)
+read-at-requires-2 : tie.Need-read-at-requires-2 Inv-loop μ-loop
+read-at-requires-2 c κs = tt
 
 add-end : tie.Need-add-end Inv-loop μ-loop
 add-end c =
-    let good = good-file (c .before .before .before .before .before .before .before .before .before .before .before .before .args .file .now) (c .before .before .before .before .before .before .before .before .before .before .before .before .pre .0) in
-    omega (arith, good .size, running-within (c .before .before .before .loop .inv .0) good (omega (arith, c .before .before .before .before .number .ensures, c .before .before .loop-test .taken)) (c .number2 .ensures))
+    let whole = good (c .before .before .before .before .before .before .before .before .before .before .before .before) in
+    omega (arith, whole .size, running-within (c .before .before .before .loop .inv .0) whole (omega (arith, c .before .before .before .before .read-at .ensures, c .before .before .loop-test .taken)) (c .read-at2 .ensures))
 
 slice-aggregate-receive-lent : tie.Need-slice-aggregate-receive-lent Inv-loop μ-loop
 slice-aggregate-receive-lent c = sym (c .before .before .before .before .loop .inv .1 .0)
@@ -75,8 +79,9 @@ part-receive-lent-start c = omega arith
 
 part-receive-lent-end : tie.Need-part-receive-lent-end Inv-loop μ-loop
 part-receive-lent-end c =
-    let good = good-file (c .before .before .before .before .before .before .before .before .before .before .before .before .before .before .before .before .args .file .now) (c .before .before .before .before .before .before .before .before .before .before .before .before .before .before .before .before .pre .0) in
-    running-within (c .before .before .before .before .before .before .before .loop .inv .0) good (omega (arith, c .before .before .before .before .before .before .before .before .number .ensures, c .before .before .before .before .before .before .loop-test .taken)) (c .before .before .before .before .number2 .ensures)
+    let turn = c .before .before .before .before .before .before in
+    let whole = good (turn .before .before .before .before .before .before .before .before .before .before) in
+    running-within (turn .before .loop .inv .0) whole (omega (arith, turn .before .before .read-at .ensures, turn .loop-test .taken)) (c .before .before .before .before .read-at2 .ensures)
 
 receive-lent-requires : tie.Need-receive-lent-requires Inv-loop μ-loop
 receive-lent-requires c κs = tt
@@ -85,23 +90,26 @@ put-requires : tie.Need-put-requires Inv-loop μ-loop
 put-requires c κs = tt
 
 add-i : tie.Need-add-i Inv-loop μ-loop
-add-i c = omega (arith, good-file (c .before .before .before .before .before .before .before .before .before .before .before .before .before .before .before .before .before .before .before .before .before .before .before .before .before .before .args .file .now) (c .before .before .before .before .before .before .before .before .before .before .before .before .before .before .before .before .before .before .before .before .before .before .before .before .before .before .pre .0) .count, c .before .before .before .before .before .before .before .before .before .before .before .before .before .before .before .before .before .before .number .ensures, c .before .before .before .before .before .before .before .before .before .before .before .before .before .before .before .before .loop-test .taken)
+add-i c =
+    let turn = c .before .before .before .before .before .before .before .before .before .before .before .before .before .before .before .before in
+    omega (arith, good (turn .before .before .before .before .before .before .before .before .before .before) .count, turn .before .before .read-at .ensures, turn .loop-test .taken)
 
 loop-less : tie.Need-loop-less Inv-loop μ-loop
 loop-less c = omega (arith, c .before .before .before .before .before .before .before .before .before .before .before .before .before .before .before .before .loop-test .taken)
 
 loop-again : tie.Need-loop-again Inv-loop μ-loop
 loop-again c =
-    let l = c .before .before .before .before .before .before .before .before .before .before .before .before .before .before .before .before .before .loop in
+    let turn = c .before .before .before .before .before .before .before .before .before .before .before .before .before .before in
+    let l = turn .before .before .before .loop in
     let t = lists (l .nodes) (l .starts) (l .ports) (l .sizes) in
     let stepped = ap seenOf (whole-step (l .head) t _ _ (l .inv .1)) in
-    (running-next (l .inv .0) (l .head) (c .before .before .before .before .before .before .before .before .receive-lent .result) _ (omega (arith, c .before .before .before .before .before .before .before .before .before .before .before .before .before .before .before .before .before .before .number .ensures, c .before .before .before .before .before .before .before .before .before .before .before .before .before .before .before .before .loop-test .taken)) (c .before .before .before .before .before .before .before .before .before .before .before .before .before .before .number2 .ensures) (c .before .before .before .before .before .before .before .before .receive-lent .ensures .0 ∙ stepped) (c .before .before .put .ensures .0) (c .before .before .put .ensures .1), (c .before .before .before .before .before .before .before .nodes3 .given, c .before .before .before .before .before .before .starts3 .given, c .before .before .before .before .before .ports3 .given, c .before .before .before .before .sizes3 .given))
+    (running-next (l .inv .0) (l .head) (c .before .before .before .before .before .before .before .before .receive-lent .result) _ (omega (arith, turn .before .before .before .before .read-at .ensures, turn .before .before .loop-test .taken)) (turn .read-at2 .ensures) (c .before .before .before .before .before .before .before .before .receive-lent .ensures .0 ∙ stepped) (c .before .before .put .ensures .0) (c .before .before .put .ensures .1), (c .before .before .before .before .before .before .before .nodes3 .given, c .before .before .before .before .before .before .starts3 .given, c .before .before .before .before .before .ports3 .given, c .before .before .before .before .sizes3 .given))
 
 same-length : tie.Need-same-length Inv-loop μ-loop
 same-length c = remains-length (c .before .loop .inv .0 .rest)
 
 returns : tie.Need-returns Inv-loop μ-loop
-returns c = running-end (c .before .loop .inv .0) (omega (arith, c .before .before .number .ensures, c .loop-test .left))
+returns c = running-end (c .before .loop .inv .0) (omega (arith, c .before .before .read-at .ensures, c .loop-test .left))
 
 pub from-spec : {M : Type 1} → statement M
 from-spec =
@@ -109,15 +117,15 @@ from-spec =
     (tie.spec
     Inv-loop
     μ-loop
-    number-requires
+    read-at-requires
     mul-at
     add-at
     loop-holds
     mul-entry
     add-entry
     shared-slice-read-port
-    add-number
-    number-requires-2
+    add-read-at
+    read-at-requires-2
     add-end
     slice-aggregate-receive-lent
     slice-aggregate-receive-lent-2

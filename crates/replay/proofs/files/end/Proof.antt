@@ -28,14 +28,14 @@ mul-entry c = omega arith
 add-entry : tie.Need-add-entry Inv-loop μ-loop
 add-entry c = omega arith
 
-add-number : tie.Need-add-number Inv-loop μ-loop
-add-number c = omega arith
+add-read-at : tie.Need-add-read-at Inv-loop μ-loop
+add-read-at c = omega arith
 
-number-requires : tie.Need-number-requires Inv-loop μ-loop
-number-requires c κs = omega arith
+read-at-requires : tie.Need-read-at-requires Inv-loop μ-loop
+read-at-requires c κs = tt
 
 add-at-2 : tie.Need-add-at-2 Inv-loop μ-loop
-add-at-2 c = omega (arith, body-small (c .before .before .before .before .args .file .now) (c .before .before .loop .i) (λ k. c .before .before .before .shared-slice-known .given k .fits), c .before .before .loop .inv .1, c .number .ensures)
+add-at-2 c = omega (arith, body-small (c .before .before .before .before .args .file .now) (c .before .before .loop .i) (λ k. c .before .before .before .shared-slice-known .given k .fits), c .before .before .loop .inv .1, c .read-at .ensures)
 
 add-i : tie.Need-add-i Inv-loop μ-loop
 add-i c = omega arith
@@ -44,7 +44,7 @@ loop-less : tie.Need-loop-less Inv-loop μ-loop
 loop-less c = omega arith
 
 loop-again : tie.Need-loop-again Inv-loop μ-loop
-loop-again c = (omega arith, ap₂ _+_ (c .before .before .loop .inv .1) (c .number .ensures) ∙ sym (body-next (c .before .before .before .before .args .file .now) (c .before .before .loop .i)))
+loop-again c = (omega arith, ap₂ _+_ (c .before .before .loop .inv .1) (c .read-at .ensures) ∙ sym (body-next (c .before .before .before .before .args .file .now) (c .before .before .loop .i)))
 
 returns : tie.Need-returns Inv-loop μ-loop
 returns c = let all : c .before .loop .i ≡ c .before .before .before .args .count = omega arith in c .before .loop .inv .1 ∙ ap (bodyAt (c .before .before .before .args .file .now)) all
@@ -60,8 +60,8 @@ end-spec =
     loop-holds
     mul-entry
     add-entry
-    add-number
-    number-requires
+    add-read-at
+    read-at-requires
     add-at-2
     add-i
     loop-less

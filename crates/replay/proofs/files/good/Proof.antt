@@ -19,14 +19,14 @@ returns-2 c =
     let s = c .before .before .before .args .file .now in
     rw (le-leb (length s) 65536 (c .before .if1 .left), lt-leb 2 (length s) (c .if2 .taken))
 
-number-requires : tie.Need-number-requires
-number-requires c κs = search needs
+read-at-requires : tie.Need-read-at-requires
+read-at-requires c κs = tt
 
 returns-3 : tie.Need-returns-3
 unfolding goodFile
 returns-3 c =
     let s = c .before .before .before .before .before .args .file .now in
-    rw (le-leb (length s) 65536 (c .before .before .before .if1 .left), le-leb 2 (length s) (c .before .before .if2 .left), lt-leb (entryCount s) 1000 (omega (arith, c .before .number .ensures, c .if3 .taken)))
+    rw (le-leb (length s) 65536 (c .before .before .before .if1 .left), le-leb 2 (length s) (c .before .before .if2 .left), lt-leb (entryCount s) 1000 (omega (arith, c .before .read-at .ensures, c .if3 .taken)))
 
 mul-if4 : tie.Need-mul-if4
 mul-if4 c = search needs
@@ -38,7 +38,7 @@ returns-4 : tie.Need-returns-4
 unfolding goodFile
 returns-4 c =
     let s = c .before .before .before .before .before .before .args .file .now in
-    rw (le-leb (length s) 65536 (c .before .before .before .before .if1 .left), le-leb 2 (length s) (c .before .before .before .if2 .left), le-leb (entryCount s) 1000 (omega (arith, c .before .before .number .ensures, c .before .if3 .left)), lt-leb (entryAt (entryCount s)) (length s) (omega (arith, c .before .before .number .ensures, c .if4 .taken)))
+    rw (le-leb (length s) 65536 (c .before .before .before .before .if1 .left), le-leb 2 (length s) (c .before .before .before .if2 .left), le-leb (entryCount s) 1000 (omega (arith, c .before .before .read-at .ensures, c .before .if3 .left)), lt-leb (entryAt (entryCount s)) (length s) (omega (arith, c .before .before .read-at .ensures, c .if4 .taken)))
 
 end-requires : tie.Need-end-requires
 end-requires c κs = search needs
@@ -47,7 +47,7 @@ returns-5 : tie.Need-returns-5
 unfolding goodFile
 returns-5 c =
     let s = c .before .before .before .before .before .before .before .args .file .now in
-    rw (c .end .ensures, c .before .before .before .number .ensures, le-leb (length s) 65536 (c .before .before .before .before .before .if1 .left), le-leb 2 (length s) (c .before .before .before .before .if2 .left), le-leb (entryCount s) 1000 (omega (arith, c .before .before .before .number .ensures, c .before .before .if3 .left)), le-leb (entryAt (entryCount s)) (length s) (omega (arith, c .before .before .before .number .ensures, c .before .if4 .left)))
+    rw (c .end .ensures, c .before .before .before .read-at .ensures, le-leb (length s) 65536 (c .before .before .before .before .before .if1 .left), le-leb 2 (length s) (c .before .before .before .before .if2 .left), le-leb (entryCount s) 1000 (omega (arith, c .before .before .before .read-at .ensures, c .before .before .if3 .left)), le-leb (entryAt (entryCount s)) (length s) (omega (arith, c .before .before .before .read-at .ensures, c .before .if4 .left)))
 
 pub good-spec : {M : Type 1} → statement M
 good-spec =
@@ -55,7 +55,7 @@ good-spec =
     (tie.spec
     returns
     returns-2
-    number-requires
+    read-at-requires
     returns-3
     mul-if4
     add-if4

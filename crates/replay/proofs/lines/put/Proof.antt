@@ -38,12 +38,17 @@ put-requires-3 c κs = search needs
 returns : tie.Need-returns
 unfolding lineOf
 returns c =
+    let e1 = c .before .before .before .before .before .before .before .before .before .before .before .before .before .before .before .before .before .before .before .before .before .before .before .before .before .put-decimal .ensures in
+    let e2 = c .before .before .before .before .before .before .before .before .before .before .before .before .before .before .before .before .before .before .before .before .put .ensures in
+    let e3 = c .before .before .before .before .before .before .before .before .before .before .before .before .before .before .before .before .put-answer .ensures in
+    let e4 = c .before .before .before .before .before .before .before .before .before .before .before .put2 .ensures in
+    let e5 = c .before .before .before .before .before .before .before .put-decimal2 .ensures in
     let a = c .before .before .before .before .before .before .before .before .before .before .before .before .before .before .before .before .before .before .before .before .before .before .before .before .before .before .before .before .args in
-    let r1 = remains-first (a .at) (decimal (a .i)) _ (a .text .now) (c .before .before .before .before .before .before .before .before .before .before .before .before .before .before .before .before .before .before .before .before .before .before .before .before .before .put-decimal .ensures .0) (c .before .before .before .before .before .before .before .before .before .before .before .before .before .before .before .before .before .before .before .before .before .before .before .before .before .put-decimal .ensures .1) in
-    let r2 = remains-next space r1 (c .before .before .before .before .before .before .before .before .before .before .before .before .before .before .before .before .before .before .before .before .put .ensures .0) (c .before .before .before .before .before .before .before .before .before .before .before .before .before .before .before .before .before .before .before .before .put .ensures .1) in
-    let r3 = remains-next (answerText (a .refusal) (a .sent)) r2 (c .before .before .before .before .before .before .before .before .before .before .before .before .before .before .before .before .put-answer .ensures .0) (c .before .before .before .before .before .before .before .before .before .before .before .before .before .before .before .before .put-answer .ensures .1) in
-    let r4 = remains-next space r3 (c .before .before .before .before .before .before .before .before .before .before .before .put2 .ensures .0) (c .before .before .before .before .before .before .before .before .before .before .before .put2 .ensures .1) in
-    let r5 = remains-next (decimal (a .lines)) r4 (c .before .before .before .before .before .before .before .put-decimal2 .ensures .0) (c .before .before .before .before .before .before .before .put-decimal2 .ensures .1) in
+    let r1 = remains-first (a .at) (decimal (a .i)) _ (a .text .now) (e1 .0) (e1 .1) in
+    let r2 = remains-next space r1 (e2 .0) (e2 .1) in
+    let r3 = remains-next (answerText (a .refusal) (a .sent)) r2 (e3 .0) (e3 .1) in
+    let r4 = remains-next space r3 (e4 .0) (e4 .1) in
+    let r5 = remains-next (decimal (a .lines)) r4 (e5 .0) (e5 .1) in
     remains-last r5 (c .before .before .put3 .ensures .0) (c .before .before .put3 .ensures .1)
 
 same-length : tie.Need-same-length

@@ -2,7 +2,7 @@
 use Prim.Native.Nat.{ℕ, _%_}
 use mathlib.Core.Path.{_≡_, ap}
 use native.Mathlib.Nat.{div-one}
-use Rattle.range.specs.Range.{bit}
+use Rattle.numbers.specs.Bits.{bit}
 use Rattle.text.specs.Text.{decimal}
 use Rattle.text.proofs.Laws.{remains-first, remains-next, remains-last}
 use borrow.Author.Needs.{needs}
@@ -38,11 +38,14 @@ same-length c = search needs
 
 returns : tie.Need-returns
 returns c =
+    let e1 = c .before .before .before .before .before .before .before .before .before .before .before .before .before .before .put-decimal .ensures in
+    let e2 = c .before .before .before .before .before .before .before .before .before .before .put-decimal2 .ensures in
+    let e3 = c .before .before .before .before .before .before .put-decimal3 .ensures in
     let a = c .before .before .before .before .before .before .before .before .before .before .before .before .before .before .before .before .before .args in
     let lowest : bit 0 (a .sent) ≡ a .sent % 2 = ap (λ (n : ℕ). n % 2) (div-one (a .sent)) in
-    let r1 = remains-first (a .at) (decimal (a .sent % 2)) _ (a .text .now) (c .before .before .before .before .before .before .before .before .before .before .before .before .before .before .put-decimal .ensures .0) (c .before .before .before .before .before .before .before .before .before .before .before .before .before .before .put-decimal .ensures .1) in
-    let r2 = remains-next (decimal (bit 1 (a .sent))) r1 (c .before .before .before .before .before .before .before .before .before .before .put-decimal2 .ensures .0) (c .before .before .before .before .before .before .before .before .before .before .put-decimal2 .ensures .1) in
-    let r3 = remains-next (decimal (bit 2 (a .sent))) r2 (c .before .before .before .before .before .before .put-decimal3 .ensures .0) (c .before .before .before .before .before .before .put-decimal3 .ensures .1) in
+    let r1 = remains-first (a .at) (decimal (a .sent % 2)) _ (a .text .now) (e1 .0) (e1 .1) in
+    let r2 = remains-next (decimal (bit 1 (a .sent))) r1 (e2 .0) (e2 .1) in
+    let r3 = remains-next (decimal (bit 2 (a .sent))) r2 (e3 .0) (e3 .1) in
     rw lowest (remains-last r3 (c .before .before .put-decimal4 .ensures .0) (c .before .before .put-decimal4 .ensures .1))
 
 pub put-ports-spec : {M : Type 1} → statement M

@@ -1,0 +1,81 @@
+-- The rules' state from the code's: the lines stand in four lists, line i at place i of each.
+use Prim.Native.Nat.{ℕ}
+use mathlib.Core.Path.{_≡_}
+use mathlib.Core.Bool.{Bool, not}
+use mathlib.Core.List.{List}
+use lib.ListN.{length, getD, set}
+use denote.Ref.{RefT}
+use denote.Triple.Both.{Both}
+use Rattle.range.specs.Range.{isBlock}
+use Rattle.basics.specs.Lists.{each}
+use Rattle.basics.specs.Sets.{inSet}
+use Rattle.gateway_rules.specs.declared.Line.{Line}
+use Rattle.gateway_rules.specs.State.{Gate, full, badBesideLines}
+use Rattle.gateway.specs.declared.state.Head.{Head}
+use Rattle.gateway.specs.declared.state.Gateway.{Gateway}
+use Rattle.gateway.specs.declared.step.Left.{Left}
+
+-- The lists that the lines stand in. At place i are line i's Node ID, its block's start and k, and its port.
+pub record Lists : Type 0 where
+  pub nodes : List ℕ
+  pub starts : List ℕ
+  pub ports : List ℕ
+  pub sizes : List ℕ
+
+abbrev pub lists : List ℕ → List ℕ → List ℕ → List ℕ → Lists
+lists nodes starts ports sizes = record { nodes = nodes; starts = starts; ports = ports; sizes = sizes }
+
+abbrev pub lineAt : Lists → ℕ → Line
+lineAt t i = record { port = getD (t .ports) i 0; node = getD (t .nodes) i 0; block = record { start = getD (t .starts) i 0; k = getD (t .sizes) i 0 } }
+
+-- The first n lines.
+abbrev pub linesIn : ℕ → Lists → List Line
+linesIn n t = each n (lineAt t)
+
+unfoldable pub gateIn : Head → Lists → Gate
+gateIn h t = record { ports = h .ports; automatic = h .automatic; lines = linesIn (h .count) t; marked = inSet (h .marks) }
+
+abbrev pub listsOf : Gateway → Lists
+listsOf g = lists (g .nodes) (g .starts) (g .ports) (g .sizes)
+
+abbrev pub gateOf : Gateway → Gate
+gateOf g = gateIn (g .head) (listsOf g)
+
+-- The head with other open marks and another line count: the rest of it never changes.
+abbrev pub headWith : Head → ℕ → ℕ → Head
+headWith h marks count = record { ports = h .ports; marks = marks; automatic = h .automatic; count = count }
+
+-- The state that a message leaves.
+abbrev pub gateAfter : Head → Left → Lists → Gate
+gateAfter h r t = gateIn (headWith h (r .marks) (r .count)) t
+
+-- Out of bounds but for the lines.
+abbrev pub badHead : Head → Bool
+badHead h = badBesideLines (h .ports) (h .count) (inSet (h .marks)) (h .automatic)
+
+-- The lists with a line put at a place.
+abbrev pub putAt : ℕ → Line → Lists → Lists
+putAt i l t = lists (set (t .nodes) i (l .node)) (set (t .starts) i (l .block .start)) (set (t .ports) i (l .port)) (set (t .sizes) i (l .block .k))
+
+-- Lists of 256 places each.
+abbrev pub Whole : Lists → Type 0
+Whole t = (length (t .nodes) ≡ full) × (length (t .starts) ≡ full) × (length (t .ports) ≡ full) × (length (t .sizes) ≡ full)
+
+-- A line whose block is none.
+abbrev pub noBlock : Line → Bool
+noBlock l = not (isBlock (l .block))
+
+-- ---- lent
+
+-- The lists that are lent to a call: as it asks for them, as it is entered, and as it is left.
+abbrev pub held : RefT (List ℕ) → RefT (List ℕ) → RefT (List ℕ) → RefT (List ℕ) → Lists
+held nodes starts ports sizes = lists (nodes .now) (starts .now) (ports .now) (sizes .now)
+
+abbrev pub Lent : Type 0
+Lent = Both (RefT (List ℕ)) (RefT (List ℕ))
+
+abbrev pub entered : Lent → Lent → Lent → Lent → Lists
+entered nodes starts ports sizes = held (nodes .entry) (starts .entry) (ports .entry) (sizes .entry)
+
+abbrev pub left : Lent → Lent → Lent → Lent → Lists
+left nodes starts ports sizes = held (nodes .exit) (starts .exit) (ports .exit) (sizes .exit)
