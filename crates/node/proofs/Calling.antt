@@ -1,50 +1,68 @@
 -- What each way out of a call leaves: the refusals in their order, and the accepted call.
 use Prim.Native.Nat.{ℕ}
 use mathlib.Core.Path.{_≡_, refl, sym, ap, _∙_}
-use mathlib.Core.Bool.{Bool}
-use mathlib.Core.List.{List, _++_}
+use mathlib.Core.Bool.{true}
+use mathlib.Core.List.{List, [], _∷_, _++_}
+use native.Mathlib.Omega.{arith}
 use lib.ListN.{length}
-use Rattle.sets.specs.Sets.{setOf}
-use Rattle.sets.proofs.Sets.{nobody}
-use Rattle.message.specs.declared.Message.{Message}
-use Rattle.message.specs.Refusals.{Test, firstOf, answered}
-use Rattle.message.specs.Writing.{pasted}
-use Rattle.message.proofs.Firsts.{first-none, first-some, first-after, answered-yes, answered-no}
-use Rattle.message.proofs.Pasting.{pasted-first}
+use Rattle.numbers.specs.Numbers.{pasted}
+use Rattle.numbers.proofs.Pasting.{pasted-first}
+use Rattle.basics.specs.Refusals.{Test, firstOf, answered}
+use Rattle.basics.proofs.Firsts.{numbered, first-none, first-some, first-after, answered-yes, answered-no}
+use Rattle.basics.proofs.Sets.{nobody}
+use Rattle.node_rules.specs.declared.Call.{Call}
 use Rattle.node_rules.specs.Boards.{Slots, Board}
 use Rattle.node_rules.specs.Sending.{allBytes}
-use Rattle.node_rules.specs.Calls.{Outcome, accepting, refusing, boardTests}
+use Rattle.node_rules.specs.Calls.{Outcome, refusing, boardTests, accepted, callTests, testsOf, outcome}
 use Rattle.node.specs.declared.Answer.{Answer}
-use Rattle.node.specs.Answers.{left, answer, leftBy}
+use Rattle.node.specs.Answers.{Result, result, answer, answerOf, resultBy}
 
--- The code's answer, slots and output are those of an accepted call.
-pub left-made : {a : Answer} {s : Slots} {o′ : List ℕ} (out : List ℕ) (sent : List Message) (matches : ℕ → Bool) (next : Board)
-    → a ≡ answer 0 (length sent) (length (allBytes sent)) (setOf 64 matches) (next .node) → s ≡ next .slots → o′ ≡ pasted 0 (allBytes sent) out
-    → left a s o′ ≡ leftBy out (accepting sent matches next)
-left-made out sent matches next p q r = λ i. left (p i) (q i) ((r ∙ pasted-first (allBytes sent) out) i)
+-- ---- tests in a row
 
--- A call with tests of its own after those that every call has.
-module _ {A : Type 0} (b : Board) (accept : A → Outcome) (x : A) (ts : List Test) (out : List ℕ) where
-  abbrev given : Outcome
-  given = answered accept (refusing b) (firstOf (boardTests b ++ ts)) x
+pub refused-by : (ts us : List Test) {n : ℕ} → n ≡ firstOf ts → (n ≡ 0 → ⊥) → firstOf (ts ++ us) ≡ n
+refused-by ts us e z = first-some ts us (λ s. z (e ∙ s)) ∙ sym e
 
-  refused-by : {a : Answer} (n : ℕ) → a ≡ answer n 0 0 0 (b .node) → firstOf (boardTests b ++ ts) ≡ n → (n ≡ 0 → ⊥) → left a (b .slots) out ≡ leftBy out given
-  refused-by n p e z =
-      ap (λ (a : Answer). left a (b .slots) out) (p ∙ ap (λ (set : ℕ). answer n 0 0 set (b .node)) (sym (nobody 64)))
-      ∙ ap (leftBy out) (sym (answered-no accept (refusing b) n x z) ∙ ap (λ (k : ℕ). answered accept (refusing b) k x) (sym e))
+pub passed-by : (ts us : List Test) → numbered ts ≡ true → firstOf ts ≡ 0 → firstOf (ts ++ us) ≡ firstOf us
+passed-by ts us n z = first-after (first-none ts n .0 z) us
+
+-- ---- a call
+
+-- An empty output stays empty.
+pub without-output : {a : Answer} {s : Slots} {r : Result} (o : List ℕ) → length o ≡ 0 → result a s o ≡ r → result a s [] ≡ r
+without-output [] h e = e
+without-output (x ∷ o) h e = absurd (omega (arith, h))
+
+module _ (b : Board) (call : Call) (bytes out : List ℕ) where
+  abbrev given : Result
+  given = resultBy out (outcome b call bytes (length out))
+
+  refused-with : {a : Answer} (n : ℕ) → a ≡ answer n 0 0 0 (b .node) → firstOf (testsOf b call bytes (length out)) ≡ n → (n ≡ 0 → ⊥)
+      → result a (b .slots) out ≡ given
+  unfolding outcome
+  refused-with n p e z =
+      ap (λ (a : Answer). result a (b .slots) out) (p ∙ ap (λ (set : ℕ). answer n 0 0 set (b .node)) (sym (nobody 64)))
+      ∙ ap (resultBy out)
+      (sym (answered-no (λ o. o) (refusing b) n (accepted b call bytes) z)
+      ∙ ap (λ (k : ℕ). answered (λ (o : Outcome). o) (refusing b) k (accepted b call bytes)) (sym e))
 
   -- The refusals that every call can give come first.
-  pub left-barred : {a : Answer} (n : ℕ) → a ≡ answer n 0 0 0 (b .node) → n ≡ firstOf (boardTests b) → (n ≡ 0 → ⊥) → left a (b .slots) out ≡ leftBy out given
-  left-barred n p e z = refused-by n p (first-some (boardTests b) ts (λ s. z (e ∙ s)) ∙ sym e) z
+  pub call-barred : {a : Answer} (n : ℕ) → a ≡ answer n 0 0 0 (b .node) → n ≡ firstOf (boardTests b) → (n ≡ 0 → ⊥) → result a (b .slots) out ≡ given
+  call-barred n p e z = refused-with n p (refused-by (boardTests b) (callTests b call bytes (length out)) e z) z
 
   module _ (good : firstOf (boardTests b) ≡ 0) where
-    later : firstOf (boardTests b ++ ts) ≡ firstOf ts
-    later = first-after (first-none (boardTests b) refl .0 good) ts
+    later : firstOf (testsOf b call bytes (length out)) ≡ firstOf (callTests b call bytes (length out))
+    later = passed-by (boardTests b) (callTests b call bytes (length out)) refl good
 
     -- Past them, those of the call itself.
-    pub left-refused : {a : Answer} (n : ℕ) → a ≡ answer n 0 0 0 (b .node) → firstOf ts ≡ n → (n ≡ 0 → ⊥) → left a (b .slots) out ≡ leftBy out given
-    left-refused n p e z = refused-by n p (later ∙ e) z
+    pub call-refused : {a : Answer} (n : ℕ) → a ≡ answer n 0 0 0 (b .node) → firstOf (callTests b call bytes (length out)) ≡ n → (n ≡ 0 → ⊥)
+        → result a (b .slots) out ≡ given
+    call-refused n p e z = refused-with n p (later ∙ e) z
 
     -- No test applies.
-    pub left-accepted : firstOf ts ≡ 0 → leftBy out (accept x) ≡ leftBy out given
-    left-accepted e = ap (leftBy out) (sym (answered-yes accept (refusing b) x (later ∙ e)))
+    pub call-accepted : {a : Answer} {s : Slots} {o′ : List ℕ} → firstOf (callTests b call bytes (length out)) ≡ 0
+        → a ≡ answerOf (accepted b call bytes) → s ≡ accepted b call bytes .next .slots → o′ ≡ pasted 0 (allBytes (accepted b call bytes .sent)) out
+        → result a s o′ ≡ given
+    unfolding outcome
+    call-accepted e p q r =
+        (λ i. result (p i) (q i) ((r ∙ pasted-first (allBytes (accepted b call bytes .sent)) out) i))
+        ∙ ap (resultBy out) (sym (answered-yes (λ o. o) (refusing b) (accepted b call bytes) (later ∙ e)))

@@ -8,7 +8,7 @@ use native.Mathlib.Nat.{eq-or-lt-of-le, le-of-suc-le-suc, le-refl, le-trans}
 use native.Mathlib.Numerals.{add-one}
 use native.Mathlib.Omega.{arith}
 use lib.ListN.{length, length-append}
-use Rattle.node_rules.specs.Sending.{chosen}
+use Rattle.node_rules.specs.Hearing.{chosen}
 use Rattle.node_rules.proofs.Once.{chosen-few}
 
 module _ (test : ℕ → Bool) where

@@ -1,12 +1,10 @@
 pub mod Limits
-pub mod Below
 pub mod Choosing
 pub mod Marks
 pub mod Matching
+pub mod Others
 pub mod Replying
 pub mod Written
 pub mod Calling
-pub mod Initialising
-pub mod Announcing
-pub mod Setting
+pub mod Tests
 pub mod Receiving

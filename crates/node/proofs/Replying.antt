@@ -6,13 +6,16 @@ use mathlib.Core.List.{List, [], _∷_, _++_, append-nil, append-assoc}
 use native.Mathlib.Omega.{arith}
 use lib.ListN.{length}
 use Rattle.message.specs.Messages.{messageBytes}
-use Rattle.message.specs.Writing.{pasted}
-use Rattle.message.proofs.Pasting.{Wrote, wrote-none, wrote-room, wrote-more}
-use Rattle.node_rules.specs.declared.Inquiry.{Inquiry}
+use Rattle.numbers.specs.Numbers.{pasted}
+use Rattle.numbers.proofs.Pasting.{Wrote, wrote-none, wrote-room, wrote-more}
+use Rattle.message.specs.declared.Saying.{Saying}
 use Rattle.node_rules.specs.Boards.{Slots, Board, count, roleOf, eventOf, statusOf, withMarks, advertise}
-use Rattle.node_rules.specs.Sending.{withEvent, wholeBytes, allBytes, identifiedMti, identified, chosen, answersAt, answering, identifying, advertising}
+use Rattle.node_rules.specs.Sending.{withEvent, wholeBytes, allBytes, identifiedMti, identified, identifying, advertising}
+use Rattle.node_rules.specs.Hearing.{chosen, answersAt, answering}
+use Rattle.node_rules.specs.Calls.{replies, replied}
 use Rattle.node_rules.proofs.Pieces.{plain-whole, identified-plain}
 use Rattle.node_rules.proofs.Once.{identified-length, identifying-size}
+use Rattle.node.specs.Lent.{boardOf}
 use Rattle.node.proofs.Choosing.{chosen-none, chosen-passed, chosen-next, chosen-longer}
 
 -- ---- marks
@@ -22,7 +25,7 @@ advertising-next s [] j = refl
 advertising-next s (i ∷ is) j = advertising-next (advertise s i) is j
 
 -- Only marks change.
-pub only-marks : (s : Slots) (js : List ℕ) → advertising s js ≡ withMarks s (advertising s js .marks)
+only-marks : (s : Slots) (js : List ℕ) → advertising s js ≡ withMarks s (advertising s js .marks)
 only-marks s [] = refl
 only-marks s (i ∷ is) = only-marks (advertise s i) is
 
@@ -67,7 +70,7 @@ module _ {b : Board} {start js marks out : List ℕ} {at : ℕ} (r : Replied b s
 
 -- ---- the replies to an inquiry, slot by slot
 
-module _ (b : Board) (q : Inquiry) where
+module _ (b : Board) (q : Saying) where
   abbrev pub answersBy : ℕ → Bool
   answersBy = answersAt (b .node .automatic) (b .slots .roles) (b .slots .events) q
 
@@ -95,8 +98,8 @@ module _ (b : Board) (q : Inquiry) where
       replied-next {marked} {out′} f g = subst (λ (js : List ℕ). Replied b start js marked (at + 16) out′) (sym (chosen-next answersBy i e)) (replied-more r i next-fits f g)
 
     pub replied-all : i ≡ count (b .slots)
-        → (marks ≡ advertising (b .slots) (answering b q) .marks) × (out ≡ pasted 0 (allBytes (identifying b (answering b q))) start)
+        → (boardOf (b .node) (withMarks (b .slots) marks) ≡ replied b q) × (out ≡ pasted 0 (allBytes (replies b q)) start)
     unfolding answering
     replied-all e =
         let all : Replied b start (answerers (count (b .slots))) marks at out = subst (λ (k : ℕ). Replied b start (answerers k) marks at out) e r in
-        (all .marked, all .wrote .left)
+        (ap (boardOf (b .node)) (ap (withMarks (b .slots)) (all .marked) ∙ sym (only-marks (b .slots) (answering b q))), all .wrote .left)

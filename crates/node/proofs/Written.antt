@@ -1,15 +1,15 @@
 -- What writing a board's message leaves in the output.
 use Prim.Native.Nat.{ℕ, _+_, _-_, _≤_}
-use mathlib.Core.Path.{_≡_, refl, sym, ap, ap₂, _∙_}
+use mathlib.Core.Path.{_≡_, refl, sym, ap, _∙_}
 use mathlib.Core.Bool.{false}
 use mathlib.Core.List.{List, [], _++_, append-nil}
 use native.Mathlib.Omega.{arith}
 use lib.ListN.{length, take, drop, length-drop}
-use lib.Seq.{length-take-le, drop-length, drop-drop}
-use Rattle.numbers.specs.Numbers.{bytesOf}
+use lib.Seq.{length-take-le, drop-length}
+use Rattle.numbers.specs.Numbers.{bytesOf, pasted}
 use Rattle.message.specs.Messages.{badNode, messageBytes}
-use Rattle.message.specs.Writing.{outAfter, pasted}
-use Rattle.message.proofs.Pasting.{pasted-first}
+use Rattle.message.specs.Writing.{outAfter}
+use Rattle.numbers.proofs.Pasting.{pasted-first, part-back}
 use Rattle.message.proofs.Writings.{write-done}
 use Rattle.node_rules.specs.Sending.{completeBy, withEvent, Plain}
 use Rattle.node_rules.proofs.Pieces.{plain-length, plain-tests, complete-length, complete-tests}
@@ -31,9 +31,7 @@ plain-filled {mti = mti} p id e good at out part h f =
     ∙ ap (λ (n : ℕ). bytes ++ drop n lent) (plain-length p id e ∙ sym size)
     ∙ ap (λ (l : List ℕ). bytes ++ l) (drop-length lent)
     ∙ append-nil bytes in
-    let after : drop (at + 16 - at) (drop at out) ≡ drop (at + length bytes) out
-    = ap (λ (n : ℕ). drop n (drop at out)) width ∙ drop-drop 16 at out ∙ ap (λ (n : ℕ). drop (at + n) out) (sym (plain-length p id e)) in
-    ap₂ (λ (l r : List ℕ). take at out ++ (l ++ r)) whole after
+    part-back at 16 out part (ap length whole ∙ plain-length p id e) ∙ ap (λ (l : List ℕ). pasted at l out) whole
 
 pub complete-written : (id : ℕ) → badNode id ≡ false → (out : List ℕ) → 14 ≤ length out
     → outAfter (completeBy id) (bytesOf 6 id) out ≡ pasted 0 (messageBytes (completeBy id) (bytesOf 6 id)) out

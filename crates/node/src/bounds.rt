@@ -1,10 +1,10 @@
 // Whether a board is out of bounds, and the refusals that every call can give.
 ghost use mathlib.Core.Path.{_≡_};
 ghost use lib.ListN.{length};
-ghost use Rattle.message.specs.Refusals.{firstOf};
+ghost use Rattle.basics.specs.Refusals.{firstOf};
 ghost use Rattle.node_rules.specs.Boards.{badLengths, badRecord, badSlot, badSlots};
 ghost use Rattle.node_rules.specs.Calls.{boardTests};
-ghost use Rattle.node.specs.Answers.{slotsOf, boardOf};
+ghost use Rattle.node.specs.Lent.{slotsOf, entered, boardOf};
 use node_rules::Node;
 use range::RangeNumber;
 
@@ -16,7 +16,7 @@ pub(crate) fn refusal_of(
     statuses: &[u8],
     marks: &[u8],
 ) -> u8
-    ensures { λ r. ⌜ r ≡ firstOf (boardTests (boardOf node (now (roles .entry)) (now (events .entry)) (now (statuses .entry)) (now (marks .entry)))) ⌝ }
+    ensures { λ r. ⌜ r ≡ firstOf (boardTests (boardOf node (entered roles events statuses marks))) ⌝ }
 {
     if bad_lengths(roles.len(), events.len(), statuses.len(), marks.len()) {
         return 7;

@@ -1,16 +1,17 @@
 // The board: its record by value and its slots as lent lists, one call for each thing that it does.
 mod bounds;
+mod calls;
+mod hearing;
 mod replies;
 mod slots;
 mod writing;
 
 ghost use mathlib.Core.Path.{_≡_};
 ghost use mathlib.Core.List.{[]};
-ghost use Prim.Native.Nat.{_*_, _≤_};
-ghost use lib.ListN.{length};
-ghost use Rattle.node_rules.specs.Calls.{initialise as initialiseOn, announce as announceOn, produce as produceOn, setStatus as setStatusOn, receive as receiveOn};
-ghost use Rattle.node.specs.Answers.{slotsOf, boardOf, left, answer as answerBy, leftBy, numberOf};
-use message::Reading;
+ghost use Rattle.node_rules.specs.declared.Call.the-variants.{Initialise, Announce, Produce, SetStatus, Receive};
+ghost use Rattle.node.specs.Lent.{entered, left};
+ghost use Rattle.node.specs.Answers.{result, resultOf, leaves, performed};
+use node_rules::Call;
 use node_rules::Node;
 
 // The refusal or 0, the messages written and their bytes, the slots that a report matches, bit i for slot i, and the record.
@@ -22,39 +23,61 @@ pub struct Answer {
     pub node: Node,
 }
 
+// Any call; only Receive reads the bytes.
+pub fn perform(
+    node: Node,
+    call: Call,
+    bytes: &[u8],
+    roles: &[u8],
+    events: &[u64],
+    statuses: &mut [u8],
+    marks: &mut [u8],
+    out: &mut [u8],
+) -> Answer
+    ensures { λ a. ⌜ leaves a (left roles events statuses marks) out ≡ performed node call (now (bytes .entry)) (entered roles events statuses marks) out ⌝ }
+{
+    let refusal = bounds::refusal_of(node, roles, events, statuses, marks);
+    if refusal != 0 {
+        return calls::refused(node, refusal);
+    }
+    match call {
+        Call::Initialise => calls::initialise(node, roles, events, statuses, marks, out),
+        Call::Announce(slot) => calls::announce(node, slot, roles, events, statuses, marks, out),
+        Call::Produce(slot) => calls::produce(node, slot, roles, events, statuses, marks, out),
+        Call::SetStatus(slot, status) => calls::set_status(
+            node,
+            slot,
+            status,
+            roles,
+            events,
+            statuses,
+            marks,
+        ),
+        Call::Receive => calls::receive(node, bytes, roles, events, statuses, marks, out),
+    }
+}
+
 // Writes Initialization Complete; slots in the automatic block become Advertised, all others Unadvertised.
 pub fn initialise(
     node: Node,
     roles: &[u8],
     events: &[u64],
-    statuses: &[u8],
+    statuses: &mut [u8],
     marks: &mut [u8],
     out: &mut [u8],
 ) -> Answer
-    ensures { λ a. ⌜ left a (slotsOf (now (roles .entry)) (now (events .entry)) (now (statuses .entry)) (now (marks .exit))) (now (out .exit)) ≡ leftBy (now (out .entry)) (initialiseOn (boardOf node (now (roles .entry)) (now (events .entry)) (now (statuses .entry)) (now (marks .entry))) (length (now (out .entry)))) ⌝ }
+    ensures { λ a. ⌜ leaves a (left roles events statuses marks) out ≡ performed node Initialise [] (entered roles events statuses marks) out ⌝ }
 {
-    let refusal = bounds::refusal_of(node, roles, events, statuses, marks);
-    if refusal != 0 {
-        return refused(node, refusal);
-    }
-    if out.len() < 14 {
-        return refused(node, 6);
-    }
-    let id = node.id;
-    let automatic = node.automatic;
-    slots::restart(automatic, events, marks);
-    writing::complete(id, out);
-    Answer {
-        refusal: 0,
-        messages: 1,
-        bytes: 14,
-        matches: 0,
-        node: Node {
-            id,
-            state: 1,
-            automatic,
-        },
-    }
+    perform(
+        node,
+        Call::Initialise,
+        b"",
+        roles,
+        events,
+        statuses,
+        marks,
+        out,
+    )
 }
 
 // Writes a slot's Identified message; every slot of that role and Event ID becomes Advertised.
@@ -63,28 +86,22 @@ pub fn announce(
     slot: usize,
     roles: &[u8],
     events: &[u64],
-    statuses: &[u8],
+    statuses: &mut [u8],
     marks: &mut [u8],
     out: &mut [u8],
 ) -> Answer
-    ensures { λ a. ⌜ left a (slotsOf (now (roles .entry)) (now (events .entry)) (now (statuses .entry)) (now (marks .exit))) (now (out .exit)) ≡ leftBy (now (out .entry)) (announceOn (boardOf node (now (roles .entry)) (now (events .entry)) (now (statuses .entry)) (now (marks .entry))) slot (length (now (out .entry)))) ⌝ }
+    ensures { λ a. ⌜ leaves a (left roles events statuses marks) out ≡ performed node (Announce slot) [] (entered roles events statuses marks) out ⌝ }
 {
-    let refusal = bounds::refusal_of(node, roles, events, statuses, marks);
-    if refusal != 0 {
-        return refused(node, refusal);
-    }
-    if node.state != 1 {
-        return refused(node, 9);
-    }
-    if roles.len() <= slot {
-        return refused(node, 10);
-    }
-    let no_room = writing::no_room(1, out.len());
-    if no_room != 0 {
-        return refused(node, no_room);
-    }
-    replies::identify(node, slot, roles, events, statuses, marks, 0, out);
-    wrote(node, 1, 0)
+    perform(
+        node,
+        Call::Announce(slot),
+        b"",
+        roles,
+        events,
+        statuses,
+        marks,
+        out,
+    )
 }
 
 // Writes the report of an Advertised producer slot.
@@ -93,34 +110,22 @@ pub fn produce(
     slot: usize,
     roles: &[u8],
     events: &[u64],
-    statuses: &[u8],
-    marks: &[u8],
+    statuses: &mut [u8],
+    marks: &mut [u8],
     out: &mut [u8],
 ) -> Answer
-    ensures { λ a. ⌜ left a (slotsOf (now (roles .entry)) (now (events .entry)) (now (statuses .entry)) (now (marks .entry))) (now (out .exit)) ≡ leftBy (now (out .entry)) (produceOn (boardOf node (now (roles .entry)) (now (events .entry)) (now (statuses .entry)) (now (marks .entry))) slot (length (now (out .entry)))) ⌝ }
+    ensures { λ a. ⌜ leaves a (left roles events statuses marks) out ≡ performed node (Produce slot) [] (entered roles events statuses marks) out ⌝ }
 {
-    let refusal = bounds::refusal_of(node, roles, events, statuses, marks);
-    if refusal != 0 {
-        return refused(node, refusal);
-    }
-    if node.state != 1 {
-        return refused(node, 9);
-    }
-    if roles.len() <= slot {
-        return refused(node, 10);
-    }
-    if roles[slot] != 0 {
-        return refused(node, 11);
-    }
-    if marks[slot] != 1 {
-        return refused(node, 12);
-    }
-    let no_room = writing::no_room(1, out.len());
-    if no_room != 0 {
-        return refused(node, no_room);
-    }
-    writing::put(0x05B4, node.id, events[slot], 0, out);
-    wrote(node, 1, 0)
+    perform(
+        node,
+        Call::Produce(slot),
+        b"",
+        roles,
+        events,
+        statuses,
+        marks,
+        out,
+    )
 }
 
 // Sets a slot's status, in any state of the node.
@@ -131,22 +136,21 @@ pub fn set_status(
     roles: &[u8],
     events: &[u64],
     statuses: &mut [u8],
-    marks: &[u8],
+    marks: &mut [u8],
 ) -> Answer
-    ensures { λ a. ⌜ left a (slotsOf (now (roles .entry)) (now (events .entry)) (now (statuses .exit)) (now (marks .entry))) [] ≡ leftBy [] (setStatusOn (boardOf node (now (roles .entry)) (now (events .entry)) (now (statuses .entry)) (now (marks .entry))) slot status) ⌝ }
+    ensures { λ a. ⌜ result a (left roles events statuses marks) [] ≡ resultOf node (SetStatus slot status) [] (entered roles events statuses marks) [] ⌝ }
 {
-    let refusal = bounds::refusal_of(node, roles, events, statuses, marks);
-    if refusal != 0 {
-        return refused(node, refusal);
-    }
-    if roles.len() <= slot {
-        return refused(node, 10);
-    }
-    if 2 < status {
-        return refused(node, 10);
-    }
-    statuses[slot] = status;
-    wrote(node, 0, 0)
+    let mut none = [0u8; 0];
+    perform(
+        node,
+        Call::SetStatus(slot, status),
+        b"",
+        roles,
+        events,
+        statuses,
+        marks,
+        &mut none,
+    )
 }
 
 // Takes a message in: the replies to an inquiry, or the matches of a report.
@@ -155,63 +159,20 @@ pub fn receive(
     bytes: &[u8],
     roles: &[u8],
     events: &[u64],
-    statuses: &[u8],
+    statuses: &mut [u8],
     marks: &mut [u8],
     out: &mut [u8],
 ) -> Answer
-    ensures { λ a. ⌜ left a (slotsOf (now (roles .entry)) (now (events .entry)) (now (statuses .entry)) (now (marks .exit))) (now (out .exit)) ≡ leftBy (now (out .entry)) (receiveOn (boardOf node (now (roles .entry)) (now (events .entry)) (now (statuses .entry)) (now (marks .entry))) (now (bytes .entry)) (length (now (out .entry)))) ⌝ }
+    ensures { λ a. ⌜ leaves a (left roles events statuses marks) out ≡ performed node Receive (now (bytes .entry)) (entered roles events statuses marks) out ⌝ }
 {
-    let refusal = bounds::refusal_of(node, roles, events, statuses, marks);
-    if refusal != 0 {
-        return refused(node, refusal);
-    }
-    let reading = message::read(bytes);
-    let Reading::Read(m) = reading else {
-        return refused(node, number_in(reading));
-    };
-    let automatic = node.automatic;
-    let inquiry = replies::inquiry_of(node, m);
-    let count = replies::count_answers(inquiry, automatic, roles, events);
-    let no_room = writing::no_room(count, out.len());
-    if no_room != 0 {
-        return refused(node, no_room);
-    }
-    let matches = replies::matches(node, m, roles, events);
-    replies::answer(node, inquiry, roles, events, statuses, marks, out);
-    wrote(node, count, matches)
-}
-
-fn refused(node: Node, number: u8) -> Answer
-    ensures { λ a. ⌜ a ≡ answerBy number 0 0 0 node ⌝ }
-{
-    Answer {
-        refusal: number,
-        messages: 0,
-        bytes: 0,
-        matches: 0,
+    perform(
         node,
-    }
-}
-
-// So many messages with an event, of 16 bytes each.
-fn wrote(node: Node, messages: usize, matches: u64) -> Answer
-    requires { ⌜ messages ≤ 64 ⌝ }
-    ensures { λ a. ⌜ a ≡ answerBy 0 messages (messages * 16) matches node ⌝ }
-{
-    Answer {
-        refusal: 0,
-        messages,
-        bytes: messages * 16,
-        matches,
-        node,
-    }
-}
-
-fn number_in(reading: Reading) -> u8
-    ensures { λ n. ⌜ n ≡ numberOf reading ⌝ }
-{
-    match reading {
-        Reading::Read(_) => 0,
-        Reading::Refused(n) => n,
-    }
+        Call::Receive,
+        bytes,
+        roles,
+        events,
+        statuses,
+        marks,
+        out,
+    )
 }

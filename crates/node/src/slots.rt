@@ -2,11 +2,11 @@
 ghost use mathlib.Core.Path.{_≡_};
 ghost use mathlib.Core.Bool.{true, cond};
 ghost use Prim.Native.Nat.{_+_, _^_, _≤_, _<_};
-ghost use lib.ListN.{length, getD};
+ghost use lib.ListN.{length};
 ghost use Rattle.range.specs.Range.{isBlock, inBlock};
-ghost use Rattle.sets.specs.Sets.{setOf};
+ghost use Rattle.basics.specs.Sets.{setOf};
 ghost use Rattle.node_rules.specs.Boards.{advertised, hasAt, advertisedMarks, restartedMarks};
-ghost use Rattle.node_rules.specs.Sending.{lowestAt};
+ghost use Rattle.node_rules.specs.Hearing.{lowestAt};
 use range::Answer;
 use range::Block;
 
@@ -37,7 +37,7 @@ pub(crate) fn in_block(block: Block, e: u64) -> bool
 // Every slot of the role and Event ID of a slot becomes Advertised.
 pub(crate) fn advertise(roles: &[u8], events: &[u64], slot: usize, marks: &mut [u8])
     requires { ⌜ (slot < length (now marks)) × (length (now roles) ≡ length (now marks)) × (length (now events) ≡ length (now marks)) ⌝ }
-    ensures { λ _. ⌜ now (marks .exit) ≡ advertisedMarks (now (roles .entry)) (now (events .entry)) (getD (now (roles .entry)) slot 0) (getD (now (events .entry)) slot 0) (now (marks .entry)) ⌝ }
+    ensures { λ _. ⌜ now (marks .exit) ≡ advertisedMarks (now (roles .entry)) (now (events .entry)) slot (now (marks .entry)) ⌝ }
 {
     let role = roles[slot];
     let event = events[slot];

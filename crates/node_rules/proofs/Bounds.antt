@@ -7,12 +7,11 @@ use native.Mathlib.Nat.{eq-or-lt-of-le, le-of-suc-le-suc, not-suc-le-zero}
 use native.Mathlib.Omega.{arith}
 use borrow.Author.Tests.{eqb-true, ltb-false, not-false, leb-true, leb-false}
 use lib.Dec.{eqb, leb, ltb}
-use lib.ListN.{length}
+use lib.ListN.{length, List·getD-eq-default}
 use Rattle.range.specs.Range.{hasNumber}
-use Rattle.sets.specs.Sets.{anyBelow}
-use Rattle.message.proofs.Writings.{neither}
+use Rattle.basics.specs.Sets.{anyBelow}
+use Rattle.basics.proofs.Bools.{neither}
 use Rattle.node_rules.specs.Boards.{Board, count, roleOf, statusOf, markOf, badLengths, badRecord, badSlot, badSlots, outOfBounds}
-use Rattle.node_rules.proofs.Each.{past-end}
 
 pub record InBounds (b : Board) : Type 0 where
   pub events : length (b .slots .events) ≡ count (b .slots)
@@ -61,7 +60,7 @@ pub role-small : (b : Board) → outOfBounds b ≡ false → (i : ℕ) → roleO
 role-small b h i = go (leb (count (b .slots)) i) refl
   where
     go : (t : Bool) → leb (count (b .slots)) i ≡ t → roleOf (b .slots) i ≤ 1
-    go true e = let none = past-end (b .slots .roles) i (leb-true (count (b .slots)) i e) in omega (arith, none)
+    go true e = let none = List·getD-eq-default (b .slots .roles) 0 {n = i} (leb-true (count (b .slots)) i e) in omega (arith, none)
     go false e =
         let s = b .slots in
         let good = below-none (count s) (λ i. badSlot (b .node .state) (roleOf s i) (statusOf s i) (markOf s i)) i (in-bounds b h .slots) (leb-false (count s) i e) in

@@ -7,40 +7,45 @@ use mathlib.Core.List.{List, [], _∷_, _++_}
 use native.Mathlib.Omega.{arith}
 use borrow.Author.Tests.{eq-eqb, eqb-true, ne-eqb}
 use lib.Dec.{eqb}
-use lib.ListN.{getD}
-use Rattle.histories.proofs.Sinces.{by-end, since-new, since-old}
+use lib.ListN.{length, getD}
+use Rattle.basics.proofs.Each.{each-there}
+use Rattle.basics.proofs.Sinces.{by-end, since-new, since-old}
 use Rattle.range.specs.declared.Block.{Block}
 use Rattle.range.specs.Range.{inBlock}
-use Rattle.sets.specs.Sets.{any}
+use Rattle.basics.specs.Lists.{any}
 use Rattle.message.specs.declared.Kind.{Kind}
 use Rattle.message.specs.declared.Kind.the-variants.{EventReport, ProducerIdentified}
 use Rattle.message.specs.declared.Message.{Message}
 use Rattle.message.specs.Mti.{sameKind, isRestart, meaningOf, kindOf}
-use Rattle.node_rules.specs.Boards.{Board, producer, advertised, unadvertised, initialized, roleOf, eventOf, statusOf, markOf}
+use Rattle.node_rules.specs.declared.Call.{Call}
+use Rattle.node_rules.specs.Boards.{Board, advertised, unadvertised, initialized, roleOf, eventOf, statusOf, markOf}
+use Rattle.message.specs.Saying.{producer}
 use Rattle.node_rules.specs.Sending.{report, identified, identifying, advertising}
 use Rattle.node_rules.specs.Calls.{Outcome, accepting, refusing, noMatch, identifyingAll, withStatus}
-use Rattle.node_rules.specs.Histories.{Call, outcome, doneBy, done, Done, after, log, messagesIn, ofEvent, wrote, New, isInitialise, restarts, IdentifiedSince}
+use Rattle.node_rules.specs.Histories.{Made, givenBy, doneBy, done, Done, after, log, messagesIn, isOf, wrote, New, isInitialise, restarts, IdentifiedSince}
 use Rattle.node_rules.proofs.Pieces.{producer-kind, no-report-kind}
-use Rattle.node_rules.proofs.Each.{each-marked}
 use Rattle.node_rules.proofs.Marking.{like, like-same, Kept, advertising-marks, advertising-keeps}
 use Rattle.node_rules.proofs.Steps.{Happened, happened, written-read}
 use Rattle.node_rules.proofs.Steps.Happened.{refused, restarts as restarting, identifies, reports, sets}
 
 -- ---- calls that grow at the end
 
-after-end : (b : Board) (cs : List Call) (c : Call) → after b (cs ++ (c ∷ [])) ≡ outcome (after b cs) c .next
-after-end b [] c = refl
-after-end b (x ∷ cs) c = after-end (outcome b x .next) cs c
+made : (b : Board) (c : Made) → Happened b (c .call) (givenBy b c)
+made b c = happened b (c .call) (c .bytes) (length (c .out))
 
-log-end : (b : Board) (cs : List Call) (c : Call) → log b (cs ++ (c ∷ [])) ≡ log b cs ++ (done (after b cs) c ∷ [])
+after-end : (b : Board) (cs : List Made) (c : Made) → after b (cs ++ (c ∷ [])) ≡ givenBy (after b cs) c .next
+after-end b [] c = refl
+after-end b (x ∷ cs) c = after-end (givenBy b x .next) cs c
+
+log-end : (b : Board) (cs : List Made) (c : Made) → log b (cs ++ (c ∷ [])) ≡ log b cs ++ (done (after b cs) c ∷ [])
 log-end b [] c = refl
-log-end b (x ∷ cs) c = ap (λ (l : List Done). done b x ∷ l) (log-end (outcome b x .next) cs c)
+log-end b (x ∷ cs) c = ap (λ (l : List Done). done b x ∷ l) (log-end (givenBy b x .next) cs c)
 
 -- ---- which kinds a board writes
 
 -- A message of a kind for an event.
 abbrev says : Kind → ℕ → Message → Bool
-says k e m = sameKind k (kindOf (m .mti)) && ofEvent e (m .event)
+says k e m = sameKind k (kindOf (m .mti)) && isOf e (m .event)
 
 no-report : (b : Board) (js : List ℕ) (e : ℕ) → any (says EventReport e) (identifying b js) ≡ false
 no-report b [] e = refl
@@ -91,7 +96,7 @@ module _ (start : Board) where
     identified = λ i r m o. absurd (omega (arith, sym (n .unmarked i) ∙ m));
   }
 
-  module _ (b : Board) (c : Call) (h : List Done) (p : Holds start b h) where
+  module _ (b : Board) (c : Made) (h : List Done) (p : Holds start b h) where
     -- The marks stay, and so does what they stand on, unless the node was restarted.
     holds-kept : (d : Done) → restarts d ≡ false → Holds start b (h ++ (d ∷ []))
     holds-kept d n = record {
@@ -100,12 +105,12 @@ module _ (start : Board) where
       identified = λ i r m o. later h d (eventOf (b .slots) i) n (p .identified i r m o);
     }
 
-    holds-next : {o : Outcome} → Happened b c o → Holds start (o .next) (h ++ (doneBy c o ∷ []))
-    holds-next (refused n z) = holds-kept (doneBy c (refusing b n)) (ap (λ (t : Bool). isInitialise c && t) (ne-eqb n 0 z) ∙ and-false (isInitialise c))
+    holds-next : {o : Outcome} → Happened b (c .call) o → Holds start (o .next) (h ++ (doneBy c o ∷ []))
+    holds-next (refused n z) = holds-kept (doneBy c (refusing b n)) (ap (λ (t : Bool). isInitialise (c .call) && t) (ne-eqb n 0 z) ∙ and-false (isInitialise (c .call)))
     holds-next (restarting i g) = record {
       automatic = p .automatic;
       fit = p .fit;
-      identified = λ i r m o. absurd (outside i (each-marked _ _ i m) o);
+      identified = λ i r m o. absurd (outside i (each-there _ _ 0 advertised i (λ z. omega (arith, z)) m) o);
     }
       where
         outside : (i : ℕ) → cond (inBlock (b .node .automatic) (eventOf (b .slots) i)) advertised unadvertised ≡ advertised
@@ -140,13 +145,13 @@ module _ (start : Board) where
         let k = holds-kept d (not-restarted d f) in
         record { automatic = k .automatic; fit = k .fit; identified = k .identified }
 
-  pub holds-always : New start → (cs : List Call) → Holds start (after start cs) (log start cs)
+  pub holds-always : New start → (cs : List Made) → Holds start (after start cs) (log start cs)
   holds-always n =
       by-end (λ cs. Holds start (after start cs) (log start cs)) (holds-start n)
       (λ cs c p.
       let b = after start cs in
       subst (λ (x : Board). Holds start x (log start (cs ++ (c ∷ [])))) (sym (after-end start cs c))
-      (subst (Holds start (outcome b c .next)) (sym (log-end start cs c)) (holds-next b c (log start cs) p (happened b c))))
+      (subst (Holds start (givenBy b c .next)) (sym (log-end start cs c)) (holds-next b c (log start cs) p (made b c))))
 
 -- ---- the theorems
 
@@ -164,12 +169,12 @@ module _ (start : Board) (e : ℕ) (outside : inBlock (start .node .automatic) e
   report-identified p (sets i status f) w = absurd (false≢true w)
 
 -- A report that a call writes, after any calls on a new node, for an event outside the automatic block, was identified since the last restart.
-pub reports-identified : (start : Board) → New start → (before : List Call) (c : Call) (e : ℕ) → inBlock (start .node .automatic) e ≡ false
+pub reports-identified : (start : Board) → New start → (before : List Made) (c : Made) (e : ℕ) → inBlock (start .node .automatic) e ≡ false
     → wrote EventReport e (done (after start before) c) ≡ true → IdentifiedSince e (log start before)
 reports-identified start n before c e outside w =
     let b = after start before in
     let p = holds-always start n before in
-    let h = happened b c in
+    let h = made b c in
     report-identified start e outside p h (ap (any (says EventReport e)) (sym (written-read b c (p .fit) h)) ∙ w)
 
 -- While a node is not Initialized, it writes no message but Initialization Complete.
@@ -182,5 +187,5 @@ module _ (b : Board) (quiet : eqb (b .node .state) initialized ≡ false) where
   complete-only (reports i f g s r m) = absurd (true≢false (sym s ∙ quiet))
   complete-only (sets i status f) = refl
 
-  pub only-complete : ((i : ℕ) → eventOf (b .slots) i < 2 ^ 64) → (c : Call) → any (λ m. not (isRestart (kindOf (m .mti)))) (messagesIn (done b c .bytes)) ≡ false
-  only-complete fit c = let h = happened b c in ap (any _) (written-read b c fit h) ∙ complete-only h
+  pub only-complete : ((i : ℕ) → eventOf (b .slots) i < 2 ^ 64) → (c : Made) → any (λ m. not (isRestart (kindOf (m .mti)))) (messagesIn (done b c .bytes)) ≡ false
+  only-complete fit c = let h = made b c in ap (any _) (written-read b c fit h) ∙ complete-only h

@@ -2,49 +2,42 @@
 use Prim.Native.Nat.{ℕ, zero, suc}
 use mathlib.Core.Path.{_≡_, refl, sym, _∙_}
 use mathlib.Core.Logic.{_↔_}
-use mathlib.Core.Bool.{true}
-use mathlib.Core.List.{[], _∷_}
-use Rattle.message.specs.Reading.{messageIn}
-use Rattle.message.specs.Refusals.{firstOf, answered, None, Given}
-use Rattle.message.proofs.Firsts.{numbered, first-none, first-given}
+use mathlib.Core.List.{List}
+use Rattle.basics.specs.Refusals.{firstOf, answered, None, Given}
+use Rattle.basics.proofs.Firsts.{first-none, first-given}
+use Rattle.node_rules.specs.declared.Call.{Call}
+use Rattle.node_rules.specs.declared.Call.the-variants.{Initialise, Announce, Produce, SetStatus, Receive}
 use Rattle.node_rules.specs.Boards.{Board}
-use Rattle.node_rules.specs.Calls.{Outcome, accepting, refusing, noMatch, initialise, announce, produce, setStatus, receive, restarted, identifyingAll, withStatus, taking}
-use Rattle.node_rules.specs.Sending.{completeBy, report, identifying}
-use Rattle.node_rules.specs.Histories.{Call, outcome, testsOf}
-use Rattle.node_rules.specs.Histories.Call.{initialised, announced, produced, statusSet, received}
-use Rattle.node_rules.proofs.Steps.{Happened, happened}
+use Rattle.node_rules.specs.Calls.{Outcome, refusing, accepted, testsOf, outcome}
+use Rattle.node_rules.proofs.Steps.{Happened, all-numbered, happened}
 use Rattle.node_rules.proofs.Steps.Happened.{refused, restarts, identifies, reports, sets}
 
--- The refusal is the first test that applies.
-first : {A : Type 0} (b : Board) (accept : A → Outcome) (x : A) → accept x .refusal ≡ 0 → (n : ℕ) → answered accept (refusing b) n x .refusal ≡ n
-first b accept x h zero = h
-first b accept x h (suc n) = refl
+accepted-none : (b : Board) (call : Call) (bytes : List ℕ) → accepted b call bytes .refusal ≡ 0
+accepted-none b Initialise bytes = refl
+accepted-none b (Announce i) bytes = refl
+accepted-none b (Produce i) bytes = refl
+accepted-none b (SetStatus i status) bytes = refl
+accepted-none b Receive bytes = refl
 
-pub refusal-first : (b : Board) (c : Call) → outcome b c .refusal ≡ firstOf (testsOf b c)
-unfolding initialise announce produce setStatus receive
-refusal-first b (initialised out) = first b (accepting (completeBy (b .node .id) ∷ []) noMatch) (restarted b) refl (firstOf (testsOf b (initialised out)))
-refusal-first b (announced i out) =
-    first b (accepting (identifying b (i ∷ [])) noMatch) (identifyingAll b (i ∷ [])) refl (firstOf (testsOf b (announced i out)))
-refusal-first b (produced i out) = first b (accepting (report b i ∷ []) noMatch) b refl (firstOf (testsOf b (produced i out)))
-refusal-first b (statusSet i status) = first b (accepting [] noMatch) (withStatus b i status) refl (firstOf (testsOf b (statusSet i status)))
-refusal-first b (received bytes out) = first b (taking b) (messageIn bytes) refl (firstOf (testsOf b (received bytes out)))
+module _ (b : Board) (call : Call) (bytes : List ℕ) (room : ℕ) where
+  -- The refusal is the first test that applies.
+  pub refusal-first : outcome b call bytes room .refusal ≡ firstOf (testsOf b call bytes room)
+  unfolding outcome
+  refusal-first = go (firstOf (testsOf b call bytes room))
+    where
+      go : (n : ℕ) → answered (λ o. o) (refusing b) n (accepted b call bytes) .refusal ≡ n
+      go zero = accepted-none b call bytes
+      go (suc n) = refl
 
-all-numbered : (b : Board) (c : Call) → numbered (testsOf b c) ≡ true
-all-numbered b (initialised out) = refl
-all-numbered b (announced i out) = refl
-all-numbered b (produced i out) = refl
-all-numbered b (statusSet i status) = refl
-all-numbered b (received bytes out) = refl
+  pub refused-exactly : (n : ℕ) → (n ≡ 0 → ⊥) → (outcome b call bytes room .refusal ≡ n) ↔ Given n (testsOf b call bytes room)
+  refused-exactly n h =
+      let g = first-given (testsOf b call bytes room) n h in
+      (λ e. g .0 (sym refusal-first ∙ e), λ e. refusal-first ∙ g .1 e)
 
-pub refused-exactly : (b : Board) (c : Call) (n : ℕ) → (n ≡ 0 → ⊥) → (outcome b c .refusal ≡ n) ↔ Given n (testsOf b c)
-refused-exactly b c n h =
-    let g = first-given (testsOf b c) n h in
-    (λ e. g .0 (sym (refusal-first b c) ∙ e), λ e. refusal-first b c ∙ g .1 e)
-
-pub accepted-exactly : (b : Board) (c : Call) → (outcome b c .refusal ≡ 0) ↔ None (testsOf b c)
-accepted-exactly b c =
-    let g = first-none (testsOf b c) (all-numbered b c) in
-    (λ e. g .0 (sym (refusal-first b c) ∙ e), λ e. refusal-first b c ∙ g .1 e)
+  pub accepted-exactly : (outcome b call bytes room .refusal ≡ 0) ↔ None (testsOf b call bytes room)
+  accepted-exactly =
+      let g = first-none (testsOf b call bytes room) (all-numbered b call bytes room) in
+      (λ e. g .0 (sym refusal-first ∙ e), λ e. refusal-first ∙ g .1 e)
 
 -- A refusal keeps the board, and writes and matches nothing.
 kept : {b : Board} {c : Call} {o : Outcome} → Happened b c o → (o .refusal ≡ 0 → ⊥) → o ≡ refusing b (o .refusal)
@@ -54,5 +47,6 @@ kept (identifies js matches f g s) z = absurd (z refl)
 kept (reports i f g s r m) z = absurd (z refl)
 kept (sets i status f) z = absurd (z refl)
 
-pub refused-keeps : (b : Board) (c : Call) → (outcome b c .refusal ≡ 0 → ⊥) → outcome b c ≡ refusing b (outcome b c .refusal)
-refused-keeps b c z = kept (happened b c) z
+pub refused-keeps : (b : Board) (call : Call) (bytes : List ℕ) (room : ℕ) → (outcome b call bytes room .refusal ≡ 0 → ⊥)
+    → outcome b call bytes room ≡ refusing b (outcome b call bytes room .refusal)
+refused-keeps b call bytes room z = kept (happened b call bytes room) z

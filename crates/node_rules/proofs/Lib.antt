@@ -1,5 +1,4 @@
 pub mod Pieces
-pub mod Each
 pub mod Marking
 pub mod Steps
 pub mod Demand2

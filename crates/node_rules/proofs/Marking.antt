@@ -4,14 +4,15 @@ use mathlib.Core.Path.{_≡_, refl, ap, _∙_}
 use mathlib.Core.Logic.{_⊎_, inl, inr, ⊎-elim}
 use mathlib.Core.Bool.{Bool, true, false, cond, _||_, or-true}
 use mathlib.Core.List.{List, [], _∷_}
+use native.Mathlib.Omega.{arith}
 use borrow.Author.Tests.{eqb-true}
 use lib.Dec.{eqb}
 use lib.ListN.{length}
-use Rattle.range.proofs.Laws.{both}
-use Rattle.sets.specs.Sets.{any}
+use Rattle.basics.proofs.Bools.{both}
+use Rattle.basics.proofs.Each.{each-there}
+use Rattle.basics.specs.Lists.{any}
 use Rattle.node_rules.specs.Boards.{Slots, advertised, roleOf, eventOf, markOf, hasAt, advertise}
 use Rattle.node_rules.specs.Sending.{advertising}
-use Rattle.node_rules.proofs.Each.{each-marked}
 
 -- ---- advertising
 
@@ -24,7 +25,7 @@ marked-by true old h = inr refl
 marked-by false old h = inl h
 
 advertise-marks : (s : Slots) (j i : ℕ) → markOf (advertise s j) i ≡ advertised → (markOf s i ≡ advertised) ⊎ (like s j i ≡ true)
-advertise-marks s j i h = marked-by (like s j i) (markOf s i) (each-marked (length (s .marks)) (λ i. cond (like s j i) advertised (markOf s i)) i h)
+advertise-marks s j i h = marked-by (like s j i) (markOf s i) (each-there (length (s .marks)) (λ i. cond (like s j i) advertised (markOf s i)) 0 advertised i (λ z. omega (arith, z)) h)
 
 -- A slot is marked where it was, or where one that was identified has its role and Event ID.
 pub advertising-marks : (js : List ℕ) (s : Slots) (i : ℕ) → markOf (advertising s js) i ≡ advertised

@@ -7,15 +7,17 @@ use native.Mathlib.Omega.{arith}
 use borrow.Author.Tests.{eqb-true}
 use lib.Dec.{eqb}
 use lib.ListN.{length, getD, length-append}
-use Rattle.range.proofs.Laws.{both}
-use Rattle.sets.specs.Sets.{anyBelow}
+use Rattle.basics.proofs.Bools.{both}
+use Rattle.basics.specs.Sets.{anyBelow}
 use Rattle.message.specs.declared.Message.{Message}
 use Rattle.message.specs.Mti.{sameKind, kindOf}
-use Rattle.node_rules.specs.declared.Inquiry.{Inquiry}
-use Rattle.node_rules.specs.declared.Inquiry.the-variants.{Event, Events}
+use Rattle.message.specs.declared.Field.{Field}
+use Rattle.message.specs.declared.Saying.{Saying}
+use Rattle.message.specs.declared.Saying.the-variants.{Inquiry, InquiryForAll}
 use Rattle.node_rules.specs.Boards.{Board, count, roleOf, eventOf, statusOf, hasAt, outOfBounds}
-use Rattle.node_rules.specs.Sending.{identifiedMti, identified, wholeBytes, allBytes, chosen, lowestAt, answersAt, answering, identifying}
-use Rattle.node_rules.specs.Calls.{size, inquiryOf, taking}
+use Rattle.node_rules.specs.Sending.{identifiedMti, identified, wholeBytes, allBytes, identifying}
+use Rattle.node_rules.specs.Hearing.{heardBy, chosen, lowestAt, answersAt, answering}
+use Rattle.node_rules.specs.Calls.{size, replies, taking}
 use Rattle.node_rules.specs.Replies.{howMany, identifiedKind, names, someSlot, outside}
 use Rattle.node_rules.proofs.Bounds.{in-bounds, role-small}
 use Rattle.node_rules.proofs.Pieces.{plain-length, plain-whole, identified-plain, producer-kind, consumer-kind}
@@ -89,23 +91,27 @@ module _ (b : Board) (bounded : outOfBounds b ≡ false) (role e : ℕ) (small :
   names-all [] = refl
   names-all (i ∷ is) = ap₂ (λ (t : Bool) (n : ℕ). cond t 1 0 + n) (named i) (names-all is)
 
+  -- The replies to what is heard, by what it asks for.
+  heard-once : (asked : ℕ → ℕ → Bool) (m : Message) (s : Saying) → heardBy (b .node) m ≡ s
+      → answering b s
+      ≡ chosen (count (b .slots)) (λ i. asked (roleOf (b .slots) i) (eventOf (b .slots) i) && lowestAt (b .slots .roles) (b .slots .events) i)
+      → howMany (names role e) (taking b (heardBy (b .node) m) .sent) ≡ cond (someSlot b role e && asked role e) 1 0
+  heard-once asked m s h a =
+      names-all (answering b (heardBy (b .node) m))
+      ∙ ap (howMany slotHas) (ap (answering b) h ∙ a)
+      ∙ chosen-once (b .slots .roles) (b .slots .events) asked role e (count (b .slots))
+
   -- Identify Events: one reply for each different role and Event ID outside the automatic block, and no other.
-  pub each-once : (m : Message) → inquiryOf (b .node) m ≡ Events
-      → howMany (names role e) (taking b m .sent) ≡ cond (someSlot b role e && outside b e) 1 0
+  pub each-once : (m : Message) (destination : Field) → heardBy (b .node) m ≡ InquiryForAll destination
+      → howMany (names role e) (taking b (heardBy (b .node) m) .sent) ≡ cond (someSlot b role e && outside b e) 1 0
   unfolding answering
-  each-once m h =
-      names-all (answering b (inquiryOf (b .node) m))
-      ∙ ap (λ (q : Inquiry). howMany slotHas (answering b q)) h
-      ∙ chosen-once (b .slots .roles) (b .slots .events) (λ _ v. outside b v) role e (count (b .slots))
+  each-once m destination h = heard-once (λ _ v. outside b v) m (InquiryForAll destination) h refl
 
   -- Identify Producer or Consumer: one reply for its role and event where a slot has them, and no other.
-  pub event-once : (m : Message) (role′ e′ : ℕ) → inquiryOf (b .node) m ≡ Event role′ e′
-      → howMany (names role e) (taking b m .sent) ≡ cond (someSlot b role e && (eqb role role′ && eqb e e′)) 1 0
+  pub event-once : (m : Message) (role′ e′ : ℕ) → heardBy (b .node) m ≡ Inquiry role′ e′
+      → howMany (names role e) (taking b (heardBy (b .node) m) .sent) ≡ cond (someSlot b role e && (eqb role role′ && eqb e e′)) 1 0
   unfolding answering
-  event-once m role′ e′ h =
-      names-all (answering b (inquiryOf (b .node) m))
-      ∙ ap (λ (q : Inquiry). howMany slotHas (answering b q)) h
-      ∙ chosen-once (b .slots .roles) (b .slots .events) (λ r v. eqb r role′ && eqb v e′) role e (count (b .slots))
+  event-once m role′ e′ h = heard-once (λ r v. eqb r role′ && eqb v e′) m (Inquiry role′ e′) h refl
 
 -- ---- 1,024 bytes are enough
 
@@ -128,12 +134,12 @@ identifying-size b [] = refl
 identifying-size b (i ∷ is) =
     omega (arith, identified-length b i, identifying-size b is, length-append (wholeBytes (identified b i)) (allBytes (identifying b is)))
 
-pub replies-fit : (b : Board) → outOfBounds b ≡ false → (q : Inquiry) → size (identifying b (answering b q)) ≤ 1024
+pub replies-fit : (b : Board) → outOfBounds b ≡ false → (s : Saying) → size (replies b s) ≤ 1024
 unfolding answering
-replies-fit b h q =
+replies-fit b h s =
     omega (
       arith,
-      identifying-size b (answering b q),
-      chosen-few (count (b .slots)) (answersAt (b .node .automatic) (b .slots .roles) (b .slots .events) q),
+      identifying-size b (answering b s),
+      chosen-few (count (b .slots)) (answersAt (b .node .automatic) (b .slots .roles) (b .slots .events) s),
       in-bounds b h .few,
     )

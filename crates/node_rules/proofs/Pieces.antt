@@ -11,20 +11,21 @@ use lib.ListN.{length, take, drop, length-append}
 use lib.Seq.{take-at, drop-at, take-append-le}
 use Rattle.numbers.specs.Numbers.{numberIn, bytesOf}
 use Rattle.numbers.proofs.Laws.{bytes-length, number-of-bytes}
-use Rattle.range.proofs.Laws.{both}
+use Rattle.basics.proofs.Bools.{both, neither}
 use Rattle.message.specs.declared.Kind.the-variants.{EventReport, ConsumerIdentified, ProducerIdentified}
 use Rattle.message.specs.declared.Message.{Message}
 use Rattle.message.specs.declared.Reading.the-variants.{Read}
 use Rattle.message.specs.Mti.{addressed, carriesEvent, barred, contentAt, sameKind, kindOf, isRestart, meaningOf}
 use Rattle.message.specs.Messages.{badNode, messageBytes, contentTests}
-use Rattle.message.specs.Refusals.{firstOf}
+use Rattle.basics.specs.Refusals.{firstOf}
 use Rattle.message.specs.Reading.{fieldsIn, mtiIn, messageIn, readOf}
 use Rattle.message.specs.Writing.{outAfter}
 use Rattle.message.proofs.Exactly.{read-accepted, accepted-leaves}
 use Rattle.message.proofs.Laws.{Placed, nodes-good, content-good, source-any, source-same}
 use Rattle.message.proofs.RoundTrips.{Below, write-then-read}
-use Rattle.message.proofs.Writings.{neither, message-length, write-done}
-use Rattle.node_rules.specs.Boards.{producer, valid, invalid}
+use Rattle.message.proofs.Writings.{message-length, write-done}
+use Rattle.message.specs.Saying.{producer}
+use Rattle.node_rules.specs.Boards.{valid, invalid}
 use Rattle.node_rules.specs.Sending.{completeBy, withEvent, contentOf, wholeBytes, Plain, allBytes, identifiedMti}
 use Rattle.node_rules.specs.Histories.{firstEnd, readOut, messagesUpTo, messagesIn}
 

@@ -11,13 +11,16 @@ use lib.Seq.{take-append-seam}
 use Rattle.message.specs.declared.Message.{Message}
 use Rattle.message.specs.Messages.{badNode}
 use Rattle.message.specs.Reading.{messageIn}
-use Rattle.message.specs.Refusals.{Test, firstOf, answered, None}
-use Rattle.message.proofs.Firsts.{numbered, first-none, first-passed, rest-passed}
-use Rattle.node_rules.specs.Boards.{Board, producer, advertised, initialized, count, roleOf, eventOf, markOf}
-use Rattle.node_rules.specs.Sending.{completeBy, report, allBytes, chosen, answering, identifying}
-use Rattle.node_rules.specs.Calls.{Outcome, accepting, refusing, noMatch, boardTests, slotTests, restarted, identifyingAll, withStatus, taking, matching, inquiryOf, replying, initialiseTests, announceTests, produceTests, setStatusTests, receiveTests, initialise, announce, produce, setStatus, receive}
-use Rattle.node_rules.specs.Histories.{Call, outcome, lentTo, doneBy, messagesIn, isInitialise}
-use Rattle.node_rules.specs.Histories.Call.{initialised, announced, produced, statusSet, received}
+use Rattle.basics.specs.Refusals.{Test, firstOf, answered, None}
+use Rattle.basics.proofs.Firsts.{numbered, first-none, first-passed, rest-passed}
+use Rattle.node_rules.specs.declared.Call.{Call}
+use Rattle.node_rules.specs.declared.Call.the-variants.{Initialise, Announce, Produce, SetStatus, Receive}
+use Rattle.node_rules.specs.Boards.{Board, advertised, initialized, count, roleOf, eventOf, markOf}
+use Rattle.message.specs.Saying.{producer}
+use Rattle.node_rules.specs.Sending.{completeBy, report, allBytes, identifying}
+use Rattle.node_rules.specs.Hearing.{heardBy, chosen, answering}
+use Rattle.node_rules.specs.Calls.{Outcome, accepting, refusing, noMatch, restarted, identifyingAll, withStatus, heardIn, matching, accepted, boardTests, slotTests, testsOf, outcome}
+use Rattle.node_rules.specs.Histories.{Made, doneBy, messagesIn, isInitialise}
 use Rattle.node_rules.proofs.Pieces.{AllReadable, messages-back, plain-readable, complete-readable, report-plain, identified-plain}
 use Rattle.node_rules.proofs.Pieces.AllReadable.{none, also}
 
@@ -33,15 +36,6 @@ pub data Happened (b : Board) (c : Call) : Outcome → Type 0 where
 
 -- ---- each call is one of them
 
--- Refused, or every test was passed.
-either : {A : Type 0} (b : Board) (c : Call) (accept : A → Outcome) (ts : List Test) (x : A) → numbered ts ≡ true
-    → (None ts → Happened b c (accept x)) → Happened b c (answered accept (refusing b) (firstOf ts) x)
-either b c accept ts x n made = go (firstOf ts) refl
-  where
-    go : (k : ℕ) → firstOf ts ≡ k → Happened b c (answered accept (refusing b) k x)
-    go zero e = made (first-none ts n .0 e)
-    go (suc k) e = refused (suc k) (λ z. absurd (omega (arith, z)))
-
 node-good : (b : Board) {ts : List Test} → None (boardTests b ++ ts) → badNode (b .node .id) ≡ false
 node-good b p = first-passed (rest-passed p)
 
@@ -53,28 +47,35 @@ unfolding chosen
 nobody-asked zero = refl
 nobody-asked (suc n) = append-nil (chosen n (λ _. false)) ∙ nobody-asked n
 
-silent : (b : Board) (m : Message) → eqb (b .node .state) initialized ≡ false → replying b m ≡ []
-unfolding answering inquiryOf
+silent : (b : Board) (m : Message) → eqb (b .node .state) initialized ≡ false → answering b (heardBy (b .node) m) ≡ []
+unfolding answering heardBy
 silent b m h = rw h (nobody-asked (count (b .slots)))
 
-pub happened : (b : Board) (c : Call) → Happened b c (outcome b c)
-unfolding initialise announce produce setStatus receive
-happened b (initialised out) =
-    either b (initialised out) (accepting (completeBy (b .node .id) ∷ []) noMatch) (initialiseTests b (length out)) (restarted b) refl
-    (λ p. restarts refl (node-good b p))
-happened b (announced i out) =
-    either b (announced i out) (accepting (identifying b (i ∷ [])) noMatch) (announceTests b i (length out)) (identifyingAll b (i ∷ [])) refl
-    (λ p. identifies (i ∷ []) noMatch refl (node-good b p) (λ s. absurd (true≢false (sym (was-initialized b i p) ∙ s))))
-happened b (produced i out) =
-    either b (produced i out) (accepting (report b i ∷ []) noMatch) (produceTests b i (length out)) b refl
-    (λ p.
+-- Every test was passed.
+took-place : (b : Board) (call : Call) (bytes : List ℕ) (room : ℕ) → None (testsOf b call bytes room) → Happened b call (accepted b call bytes)
+took-place b Initialise bytes room p = restarts refl (node-good b p)
+took-place b (Announce i) bytes room p = identifies (i ∷ []) noMatch refl (node-good b p) (λ s. absurd (true≢false (sym (was-initialized b i p) ∙ s)))
+took-place b (Produce i) bytes room p =
     let q = rest-passed (rest-passed (rest-passed (rest-passed p))) in
-    reports i refl (node-good b p) (was-initialized b i p) (eqb-true _ _ (not-false _ (first-passed q))) (eqb-true _ _ (not-false _ (first-passed (rest-passed q)))))
-happened b (statusSet i status) =
-    either b (statusSet i status) (accepting [] noMatch) (setStatusTests b i status) (withStatus b i status) refl (λ p. sets i status refl)
-happened b (received bytes out) =
-    either b (received bytes out) (taking b) (receiveTests b bytes (length out)) (messageIn bytes) refl
-    (λ p. identifies (replying b (messageIn bytes)) (matching b (messageIn bytes)) refl (node-good b p) (silent b (messageIn bytes)))
+    reports i refl (node-good b p) (was-initialized b i p) (eqb-true _ _ (not-false _ (first-passed q))) (eqb-true _ _ (not-false _ (first-passed (rest-passed q))))
+took-place b (SetStatus i status) bytes room p = sets i status refl
+took-place b Receive bytes room p =
+    identifies (answering b (heardIn b bytes)) (matching b (heardIn b bytes)) refl (node-good b p) (silent b (messageIn bytes))
+
+pub all-numbered : (b : Board) (call : Call) (bytes : List ℕ) (room : ℕ) → numbered (testsOf b call bytes room) ≡ true
+all-numbered b Initialise bytes room = refl
+all-numbered b (Announce i) bytes room = refl
+all-numbered b (Produce i) bytes room = refl
+all-numbered b (SetStatus i status) bytes room = refl
+all-numbered b Receive bytes room = refl
+
+pub happened : (b : Board) (call : Call) (bytes : List ℕ) (room : ℕ) → Happened b call (outcome b call bytes room)
+unfolding outcome
+happened b call bytes room = go (firstOf (testsOf b call bytes room)) refl
+  where
+    go : (k : ℕ) → firstOf (testsOf b call bytes room) ≡ k → Happened b call (answered (λ o. o) (refusing b) k (accepted b call bytes))
+    go zero e = took-place b call bytes room (first-none (testsOf b call bytes room) (all-numbered b call bytes room) .0 e)
+    go (suc k) e = refused (suc k) (λ z. absurd (omega (arith, z)))
 
 -- ---- what was written is what was sent
 
@@ -90,7 +91,7 @@ all-readable {b = b} fit (identifies js matches i h s) = all-identified b js h f
 all-readable {b = b} fit (reports i f h s r m) = also (plain-readable report-plain (b .node .id) (eventOf (b .slots) i) h (fit i)) none
 all-readable fit (sets i status f) = none
 
-pub written-read : (b : Board) (c : Call) {o : Outcome} → ((i : ℕ) → eventOf (b .slots) i < 2 ^ 64) → Happened b c o → messagesIn (doneBy c o .bytes) ≡ o .sent
+pub written-read : (b : Board) (c : Made) {o : Outcome} → ((i : ℕ) → eventOf (b .slots) i < 2 ^ 64) → Happened b (c .call) o → messagesIn (doneBy c o .bytes) ≡ o .sent
 written-read b c {o = o} fit h =
     let bytes = allBytes (o .sent) in
-    ap messagesIn (take-append-seam bytes (drop (length bytes) (lentTo c))) ∙ messages-back (o .sent) (all-readable fit h)
+    ap messagesIn (take-append-seam bytes (drop (length bytes) (c .out))) ∙ messages-back (o .sent) (all-readable fit h)

@@ -10,11 +10,15 @@ use Rattle.message.specs.declared.Kind.the-variants.{EventReport}
 use Rattle.message.specs.Mti.{meaningOf}
 use Rattle.message.specs.Messages.{badNodes, badContent, otherSource}
 use Rattle.message.specs.Reading.{fieldsIn, readOf}
-use Rattle.node_rules.specs.Boards.{Board, unadvertised, eventOf, markOf, outOfBounds, each}
-use Rattle.node_rules.specs.Sending.{withEvent, identifiedMti, chosen, answering}
-use Rattle.node_rules.specs.Calls.{inquiryOf, initialise, announce, produce, receive}
-use Rattle.node_rules.specs.Histories.{Call, outcome, done, after, messagesUpTo, wrote, New, IdentifiedSince, log}
-use Rattle.node_rules.specs.Histories.Call.{initialised, announced, produced, received}
+use Rattle.message.specs.Saying.{saidBy}
+use Rattle.node_rules.specs.declared.Call.{Call}
+use Rattle.node_rules.specs.declared.Call.the-variants.{Initialise, Announce, Produce, Receive}
+use Rattle.node_rules.specs.Boards.{Board, unadvertised, eventOf, markOf, outOfBounds}
+use Rattle.basics.specs.Lists.{each}
+use Rattle.node_rules.specs.Sending.{withEvent, identifiedMti}
+use Rattle.node_rules.specs.Hearing.{heardBy, chosen, answering}
+use Rattle.node_rules.specs.Calls.{outcome}
+use Rattle.node_rules.specs.Histories.{Made, givenBy, done, after, messagesUpTo, wrote, New, IdentifiedSince, log}
 use Rattle.node_rules.proofs.Demand2.{reports-identified}
 
 -- A signal board: slots 0 and 1 produce the same event, slot 2 consumes it, slot 3 consumes an automatic one.
@@ -39,6 +43,10 @@ abbrev lent : ℕ → List ℕ
 lent zero = []
 lent (suc n) = 0 ∷ lent n
 
+-- A call with an output of so many bytes.
+abbrev made : Call → ℕ → Made
+made call room = record { call = call; bytes = []; out = lent room }
+
 unmarked : (i : ℕ) → markOf (board .slots) i ≡ unadvertised
 unmarked zero = refl
 unmarked (suc zero) = refl
@@ -57,11 +65,11 @@ new : New board
 new = record { fresh = refl; unmarked = unmarked; fit = fit }
 
 -- Slot 0 is announced, slot 1 reports.
-abbrev twoCalls : List Call
-twoCalls = initialised (lent 14) ∷ announced 0 (lent 16) ∷ []
+abbrev twoCalls : List Made
+twoCalls = made Initialise 14 ∷ made (Announce 0) 16 ∷ []
 
-reported : wrote EventReport event (done (after board twoCalls) (produced 1 (lent 16))) ≡ true
-unfolding initialise announce produce outOfBounds hasNumber isBlock inBlock each identifiedMti messagesUpTo meaningOf readOf fieldsIn badNodes badContent otherSource spelled bytesOf
+reported : wrote EventReport event (done (after board twoCalls) (made (Produce 1) 16)) ≡ true
+unfolding outcome outOfBounds hasNumber isBlock inBlock each identifiedMti messagesUpTo meaningOf readOf fieldsIn badNodes badContent otherSource spelled bytesOf
 reported = refl
 
 outside : inBlock (board .node .automatic) event ≡ false
@@ -69,22 +77,25 @@ unfolding inBlock
 outside = refl
 
 pub something-identified : IdentifiedSince event (log board twoCalls)
-something-identified = reports-identified board new twoCalls (produced 1 (lent 16)) event outside reported
+something-identified = reports-identified board new twoCalls (made (Produce 1) 16) event outside reported
 
 -- Restarted, the same call is refused with 12.
-pub restart-forgets : outcome (after board (twoCalls ++ (initialised (lent 14) ∷ []))) (produced 1 (lent 16)) .refusal ≡ 12
-unfolding initialise announce produce outOfBounds hasNumber isBlock inBlock each identifiedMti meaningOf bytesOf
+pub restart-forgets : givenBy (after board (twoCalls ++ (made Initialise 14 ∷ []))) (made (Produce 1) 16) .refusal ≡ 12
+unfolding outcome outOfBounds hasNumber isBlock inBlock each identifiedMti meaningOf bytesOf
 restart-forgets = refl
 
 -- Identify Events: Producer Identified unknown by slot 0, Consumer Identified invalid by slot 2, nothing for the automatic event.
 abbrev identifyEvents : List ℕ
 identifyEvents = bytesOf 2 0x0970 ++ bytesOf 6 0x0A0000000009
 
-pub answers : outcome (after board (initialised (lent 14) ∷ [])) (received identifyEvents (lent 32)) .sent
+abbrev received : Made
+received = record { call = Receive; bytes = identifyEvents; out = lent 32 }
+
+pub answers : givenBy (after board (made Initialise 14 ∷ [])) received .sent
     ≡ withEvent 0x0547 0x0A0000000001 event ∷ withEvent 0x04C5 0x0A0000000001 event ∷ []
-unfolding initialise receive outOfBounds hasNumber isBlock inBlock each identifiedMti inquiryOf answering chosen meaningOf fieldsIn badNodes badContent otherSource spelled bytesOf
+unfolding outcome outOfBounds hasNumber isBlock inBlock each identifiedMti heardBy saidBy answering chosen meaningOf fieldsIn badNodes badContent otherSource spelled bytesOf
 answers = refl
 
-pub answers-mark : outcome (after board (initialised (lent 14) ∷ [])) (received identifyEvents (lent 32)) .next .slots .marks ≡ 1 ∷ 1 ∷ 1 ∷ 1 ∷ []
-unfolding initialise receive outOfBounds hasNumber isBlock inBlock each identifiedMti inquiryOf answering chosen meaningOf fieldsIn badNodes badContent otherSource spelled bytesOf
+pub answers-mark : givenBy (after board (made Initialise 14 ∷ [])) received .next .slots .marks ≡ 1 ∷ 1 ∷ 1 ∷ 1 ∷ []
+unfolding outcome outOfBounds hasNumber isBlock inBlock each identifiedMti heardBy saidBy answering chosen meaningOf fieldsIn badNodes badContent otherSource spelled bytesOf
 answers-mark = refl

@@ -1,12 +1,14 @@
 -- A node and its slots (document 01, "Node": "A slot has ..", "Out of bounds").
-use Prim.Native.Nat.{ℕ, zero, suc}
+use Prim.Native.Nat.{ℕ}
 use mathlib.Core.Bool.{Bool, not, _&&_, _||_, cond}
-use mathlib.Core.List.{List, [], _∷_, _++_}
+use mathlib.Core.List.{List}
 use lib.Dec.{eqb, ltb}
 use lib.ListN.{length, getD}
 use Rattle.range.specs.declared.Block.{Block}
 use Rattle.range.specs.Range.{hasNumber, inBlock}
-use Rattle.sets.specs.Sets.{anyBelow}
+use Rattle.basics.specs.Lists.{each}
+use Rattle.basics.specs.Sets.{anyBelow}
+use Rattle.message.specs.Saying.{consumer}
 use Rattle.node_rules.specs.declared.Node.{Node}
 
 -- A role, an Event ID, a status and an Advertised mark for each slot, in four lists.
@@ -21,12 +23,6 @@ pub record Board : Type 0 where
   pub slots : Slots
 
 -- ---- the numbers that stand for them
-
-abbrev pub producer : ℕ
-producer = 0
-
-abbrev pub consumer : ℕ
-consumer = 1
 
 abbrev pub valid : ℕ
 valid = 0
@@ -96,20 +92,16 @@ outOfBounds b =
 
 -- ---- marks
 
--- A number for each of the first n slots.
-unfoldable pub each : ℕ → (ℕ → ℕ) → List ℕ
-each zero f = []
-each (suc n) f = each n f ++ (f n ∷ [])
-
 abbrev pub withMarks : Slots → List ℕ → Slots
 withMarks s marks = record { roles = s .roles; events = s .events; statuses = s .statuses; marks = marks }
 
--- Every slot of a role and Event ID becomes Advertised.
-abbrev pub advertisedMarks : List ℕ → List ℕ → ℕ → ℕ → List ℕ → List ℕ
-advertisedMarks roles events role event marks = each (length marks) (λ i. cond (hasAt roles events role event i) advertised (getD marks i 0))
+-- Every slot of the role and Event ID of a slot becomes Advertised.
+abbrev pub advertisedMarks : List ℕ → List ℕ → ℕ → List ℕ → List ℕ
+advertisedMarks roles events slot marks =
+    each (length marks) (λ i. cond (hasAt roles events (getD roles slot 0) (getD events slot 0) i) advertised (getD marks i 0))
 
 abbrev pub advertise : Slots → ℕ → Slots
-advertise s i = withMarks s (advertisedMarks (s .roles) (s .events) (roleOf s i) (eventOf s i) (s .marks))
+advertise s i = withMarks s (advertisedMarks (s .roles) (s .events) i (s .marks))
 
 -- Slots in the automatic block become Advertised, all others Unadvertised.
 abbrev pub restartedMarks : Block → List ℕ → List ℕ → List ℕ

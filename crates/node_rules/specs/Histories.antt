@@ -5,8 +5,8 @@ use mathlib.Core.Bool.{Bool, true, false, cond, _&&_}
 use mathlib.Core.List.{List, [], _∷_, _++_}
 use lib.Dec.{eqb}
 use lib.ListN.{length, take, drop}
-use Rattle.histories.specs.Since.{Since}
-use Rattle.sets.specs.Sets.{any}
+use Rattle.basics.specs.Since.{Since}
+use Rattle.basics.specs.Lists.{any}
 use Rattle.message.specs.declared.Kind.{Kind}
 use Rattle.message.specs.declared.Kind.the-variants.{ProducerIdentified}
 use Rattle.message.specs.declared.Field.{Field}
@@ -15,42 +15,22 @@ use Rattle.message.specs.declared.Message.{Message}
 use Rattle.message.specs.declared.Reading.{Reading}
 use Rattle.message.specs.declared.Reading.the-variants.{Read, Refused}
 use Rattle.message.specs.Mti.{sameKind, kindOf, meaningOf, contentAt}
-use Rattle.message.specs.Refusals.{Test}
 use Rattle.message.specs.Reading.{mtiIn, readOf}
 use Rattle.message.specs.Writing.{overwritten}
+use Rattle.node_rules.specs.declared.Call.{Call}
+use Rattle.node_rules.specs.declared.Call.the-variants.{Initialise, Announce, Produce, SetStatus, Receive}
 use Rattle.node_rules.specs.Boards.{Board, notInitialized, unadvertised, eventOf, markOf}
 use Rattle.node_rules.specs.Sending.{allBytes}
-use Rattle.node_rules.specs.Calls.{Outcome, initialiseTests, announceTests, produceTests, setStatusTests, receiveTests, initialise, announce, produce, setStatus, receive}
+use Rattle.node_rules.specs.Calls.{Outcome, outcome}
 
--- A call, with the output that was lent to it.
-pub data Call : Type 0 where
-  initialised : (out : List ℕ) → Call
-  announced : (slot : ℕ) (out : List ℕ) → Call
-  produced : (slot : ℕ) (out : List ℕ) → Call
-  statusSet : (slot status : ℕ) → Call
-  received : (bytes out : List ℕ) → Call
+-- A call, with what was lent to it: the bytes that were received and the output.
+pub record Made : Type 0 where
+  pub call : Call
+  pub bytes : List ℕ
+  pub out : List ℕ
 
-abbrev pub outcome : Board → Call → Outcome
-outcome b (initialised out) = initialise b (length out)
-outcome b (announced slot out) = announce b slot (length out)
-outcome b (produced slot out) = produce b slot (length out)
-outcome b (statusSet slot status) = setStatus b slot status
-outcome b (received bytes out) = receive b bytes (length out)
-
--- The tests of a call, in their order.
-abbrev pub testsOf : Board → Call → List Test
-testsOf b (initialised out) = initialiseTests b (length out)
-testsOf b (announced slot out) = announceTests b slot (length out)
-testsOf b (produced slot out) = produceTests b slot (length out)
-testsOf b (statusSet slot status) = setStatusTests b slot status
-testsOf b (received bytes out) = receiveTests b bytes (length out)
-
-abbrev pub lentTo : Call → List ℕ
-lentTo (initialised out) = out
-lentTo (announced slot out) = out
-lentTo (produced slot out) = out
-lentTo (statusSet slot status) = []
-lentTo (received bytes out) = out
+abbrev pub givenBy : Board → Made → Outcome
+givenBy b c = outcome b (c .call) (c .bytes) (length (c .out))
 
 -- The output after a call: what is written stands at its start.
 abbrev pub outAfter : List ℕ → Outcome → List ℕ
@@ -64,20 +44,20 @@ pub record Done : Type 0 where
   pub refusal : ℕ
   pub bytes : List ℕ
 
-abbrev pub doneBy : Call → Outcome → Done
-doneBy c o = record { call = c; refusal = o .refusal; bytes = take (length (allBytes (o .sent))) (outAfter (lentTo c) o) }
+abbrev pub doneBy : Made → Outcome → Done
+doneBy c o = record { call = c .call; refusal = o .refusal; bytes = take (length (allBytes (o .sent))) (outAfter (c .out) o) }
 
-abbrev pub done : Board → Call → Done
-done b c = doneBy c (outcome b c)
+abbrev pub done : Board → Made → Done
+done b c = doneBy c (givenBy b c)
 
 -- The board after calls, refused ones among them, the oldest first.
-abbrev pub after : Board → List Call → Board
+abbrev pub after : Board → List Made → Board
 after b [] = b
-after b (c ∷ cs) = after (outcome b c .next) cs
+after b (c ∷ cs) = after (givenBy b c .next) cs
 
-abbrev pub log : Board → List Call → List Done
+abbrev pub log : Board → List Made → List Done
 log b [] = []
-log b (c ∷ cs) = done b c ∷ log (outcome b c .next) cs
+log b (c ∷ cs) = done b c ∷ log (givenBy b c .next) cs
 
 -- ---- what was written, read from the bytes
 
@@ -97,13 +77,13 @@ messagesUpTo (suc n) s = cond (eqb (length s) 0) [] (readOut (readOf (take (firs
 abbrev pub messagesIn : List ℕ → List Message
 messagesIn s = messagesUpTo (length s) s
 
-abbrev pub ofEvent : ℕ → Field → Bool
-ofEvent e (Present x) = eqb x e
-ofEvent e Absent = false
+abbrev pub isOf : ℕ → Field → Bool
+isOf e (Present x) = eqb x e
+isOf e Absent = false
 
 -- A message of a kind for an event was written.
 abbrev pub wrote : Kind → ℕ → Done → Bool
-wrote k e d = any (λ m. sameKind k (kindOf (m .mti)) && ofEvent e (m .event)) (messagesIn (d .bytes))
+wrote k e d = any (λ m. sameKind k (kindOf (m .mti)) && isOf e (m .event)) (messagesIn (d .bytes))
 
 -- ---- demand 2's rule
 
@@ -114,11 +94,11 @@ pub record New (b : Board) : Type 0 where
   pub fit : (i : ℕ) → eventOf (b .slots) i < 2 ^ 64
 
 abbrev pub isInitialise : Call → Bool
-isInitialise (initialised out) = true
-isInitialise (announced slot out) = false
-isInitialise (produced slot out) = false
-isInitialise (statusSet slot status) = false
-isInitialise (received bytes out) = false
+isInitialise Initialise = true
+isInitialise (Announce slot) = false
+isInitialise (Produce slot) = false
+isInitialise (SetStatus slot status) = false
+isInitialise Receive = false
 
 -- An accepted initialisation.
 abbrev pub restarts : Done → Bool

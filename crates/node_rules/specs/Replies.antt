@@ -4,13 +4,14 @@ use mathlib.Core.Bool.{Bool, cond, not, _&&_}
 use mathlib.Core.List.{List, [], _∷_}
 use lib.Dec.{eqb}
 use Rattle.range.specs.Range.{inBlock}
-use Rattle.sets.specs.Sets.{anyBelow}
+use Rattle.basics.specs.Sets.{anyBelow}
 use Rattle.message.specs.declared.Kind.{Kind}
 use Rattle.message.specs.declared.Kind.the-variants.{ConsumerIdentified, ProducerIdentified}
 use Rattle.message.specs.declared.Message.{Message}
 use Rattle.message.specs.Mti.{sameKind, kindOf}
-use Rattle.node_rules.specs.Boards.{Board, producer, count, hasAt}
-use Rattle.node_rules.specs.Histories.{ofEvent}
+use Rattle.node_rules.specs.Boards.{Board, count, hasAt}
+use Rattle.message.specs.Saying.{producer}
+use Rattle.node_rules.specs.Histories.{isOf}
 
 abbrev pub howMany : {A : Type 0} → (A → Bool) → List A → ℕ
 howMany test [] = 0
@@ -21,7 +22,7 @@ abbrev pub identifiedKind : ℕ → Kind
 identifiedKind role = cond (eqb role producer) ProducerIdentified ConsumerIdentified
 
 abbrev pub names : ℕ → ℕ → Message → Bool
-names role e m = sameKind (identifiedKind role) (kindOf (m .mti)) && ofEvent e (m .event)
+names role e m = sameKind (identifiedKind role) (kindOf (m .mti)) && isOf e (m .event)
 
 -- Some slot has the role and the event.
 abbrev pub someSlot : Board → ℕ → ℕ → Bool

@@ -1,4 +1,4 @@
-// A node's own record, as the code has it. What a board does with it is defined in specs/ and proved in proofs/.
+// A node's own record and a call on a board, as the code has them. What a board does is defined in specs/ and proved in proofs/.
 use range::Block;
 
 // State 0 is not Initialized, 1 Initialized.
@@ -8,9 +8,11 @@ pub struct Node {
     pub automatic: Block,
 }
 
-// Which slots a message asks for: none, those of a role with an Event ID, or all outside the automatic block.
-pub enum Inquiry {
-    Nothing,
-    Event(u8, u64),
-    Events,
+// A call in numbers: the slot where there is one, and the status to be set. The bytes that are received and the output stand beside it.
+pub enum Call {
+    Initialise,
+    Announce(usize),
+    Produce(usize),
+    SetStatus(usize, u8),
+    Receive,
 }

@@ -6,9 +6,9 @@ use mathlib.Core.List.{List}
 use native.Mathlib.Omega.{arith}
 use borrow.Author.Needs.{needs}
 use lib.ListN.{length, getD}
-use Rattle.sets.specs.Sets.{anyBelow}
+use Rattle.basics.specs.Sets.{anyBelow}
 use Rattle.node_rules.specs.Boards.{badSlot}
-use Rattle.node.proofs.Below.{one-passes, next-fails}
+use Rattle.basics.proofs.Below.{one-passes, next-fails}
 use Rattle.node.proofs.bounds.bad_slots.Statement.{statement}
 use Rattle.node.proofs.bounds.bad_slots.Tie as tie
 

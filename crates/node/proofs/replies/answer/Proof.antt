@@ -1,44 +1,44 @@
 -- The replies of the slots below i are written and marked.
 use Prim.Native.Nat.{_+_, _-_, _≤_}
-use mathlib.Core.Path.{_≡_, refl, sym, _∙_}
+use mathlib.Core.Path.{_≡_, refl, sym, ap, _∙_}
 use mathlib.Core.Bool.{true}
 use native.Mathlib.Omega.{arith}
 use borrow.Author.Tests.{not-true, not-false}
 use borrow.Author.Needs.{needs}
 use lib.ListN.{length}
-use Rattle.node_rules.specs.Boards.{Board}
-use Rattle.node.specs.Answers.{boardOf}
+use Rattle.node_rules.specs.Boards.{Slots, Board}
+use Rattle.node.specs.Lent.{slotsOf, held, boardOf}
 use Rattle.node.proofs.Replying.{Replied, answersBy, answerers, replied-start, replied-passed, next-room, replied-next, replied-all}
 use Rattle.node.proofs.replies.answer.Statement.{statement}
 use Rattle.node.proofs.replies.answer.Tie as tie
 
 abbrev Inv-loop : tie.InvT-loop
-Inv-loop node inquiry roles events statuses marks₀ out₀ automatic at₀ i₀ marks out at i =
-    let b = boardOf node roles events statuses marks₀ in
-    (i ≤ length roles) × (length marks ≡ length marks₀) × (length out ≡ length out₀) × Replied b out₀ (answerers b inquiry i) marks at out
+Inv-loop node heard roles events statuses marks₀ out₀ automatic at₀ i₀ marks out at i =
+    let b = boardOf node (slotsOf roles events statuses marks₀) in
+    (i ≤ length roles) × (length marks ≡ length marks₀) × (length out ≡ length out₀) × Replied b out₀ (answerers b heard i) marks at out
 
 abbrev μ-loop : tie.MeasureT-loop
-μ-loop node inquiry roles events statuses marks₀ out₀ automatic at₀ i₀ marks out at i = length roles - i
+μ-loop node heard roles events statuses marks₀ out₀ automatic at₀ i₀ marks out at i = length roles - i
 
 abbrev board : tie.Start Inv-loop μ-loop → Board
-board s = let a = s .args in boardOf (a .node) (a .roles .now) (a .events .now) (a .statuses .now) (a .marks .now)
+board s = let a = s .args in boardOf (a .node) (held (a .roles) (a .events) (a .statuses) (a .marks))
 
 -- Where a slot answers.
 abbrev start : tie.Else1 Inv-loop μ-loop → tie.Start Inv-loop μ-loop
 start c = c .before .before .before .before .before .before .before .before .before .before
 
-asked : (c : tie.Else1 Inv-loop μ-loop) → answersBy (board (start c)) (start c .args .inquiry) (c .before .before .before .loop .i) ≡ true
+asked : (c : tie.Else1 Inv-loop μ-loop) → answersBy (board (start c)) (start c .args .heard) (c .before .before .before .loop .i) ≡ true
 asked c = sym (c .before .answers .ensures) ∙ not-false _ (c .if1 .left)
 
 room : (c : tie.Else1 Inv-loop μ-loop) → c .before .before .before .loop .at + 16 ≤ length (c .before .before .before .loop .out)
 room c =
     let l = c .before .before .before .loop in
-    next-room (board (start c)) (start c .args .inquiry) (l .i) (l .inv .3) (asked c) (start c .pre .1 .1 .1) (omega arith)
+    next-room (board (start c)) (start c .args .heard) (l .i) (l .inv .3) (asked c) (start c .pre .1 .1 .1) (omega arith)
 
 loop-holds : tie.Need-loop-holds Inv-loop μ-loop
 loop-holds c =
     let s = c .before .before .before .before .before .before in
-    (omega arith, refl, refl, replied-start (board s) (s .args .inquiry) (s .args .out .now))
+    (omega arith, refl, refl, replied-start (board s) (s .args .heard) (s .args .out .now))
 
 add-i : tie.Need-add-i Inv-loop μ-loop
 add-i c = omega arith
@@ -53,13 +53,14 @@ loop-again : tie.Need-loop-again Inv-loop μ-loop
 loop-again c =
     let s = c .before .before .before .before .before .before .before .before .before .before in
     let l = c .before .before .before .loop in
-    (omega arith, l .inv .1, l .inv .2, replied-passed (board s) (s .args .inquiry) (l .i) (l .inv .3) (sym (c .before .answers .ensures) ∙ not-true _ (c .if1 .taken)))
+    (omega arith, l .inv .1, l .inv .2, replied-passed (board s) (s .args .heard) (l .i) (l .inv .3) (sym (c .before .answers .ensures) ∙ not-true _ (c .if1 .taken)))
 
 identify-requires : tie.Need-identify-requires Inv-loop μ-loop
 identify-requires c κs =
     let p = start (c .before .before) .pre in
     let same = p .1 .1 .0 in
-    (p .0, (omega arith, ((same .0, same .1, c .before .before .before .before .before .loop .inv .1 ∙ same .2), room (c .before .before))))
+    let still = c .before .before .before .before .before .loop .inv .1 ∙ same .marks in
+    (p .0, (omega arith, (record { events = same .events; statuses = same .statuses; marks = still }, room (c .before .before))))
 
 add-at : tie.Need-add-at Inv-loop μ-loop
 add-at c =
@@ -80,7 +81,7 @@ loop-again-2 c =
       omega arith,
       marks ∙ l .inv .1,
       out ∙ l .inv .2,
-      replied-next (board s) (s .args .inquiry) (l .i) (l .inv .3) (asked e) (s .pre .1 .1 .1) (omega arith) (wrote .ensures .0) (wrote .ensures .1),
+      replied-next (board s) (s .args .heard) (l .i) (l .inv .3) (asked e) (s .pre .1 .1 .1) (omega arith) (ap (λ (x : Slots). x .marks) (wrote .ensures .0)) (wrote .ensures .1),
     )
 
 same-length : tie.Need-same-length Inv-loop μ-loop
@@ -94,7 +95,7 @@ returns c =
     let s = c .before .before .before .before .before .before .before .before in
     let l = c .before .loop in
     let all : l .i ≡ length (s .args .roles .now) = omega arith in
-    replied-all (board s) (s .args .inquiry) (l .i) (l .inv .3) all
+    replied-all (board s) (s .args .heard) (l .i) (l .inv .3) all
 
 pub answer-spec : {M : Type 1} → statement M
 answer-spec =

@@ -3,7 +3,7 @@ use mathlib.Core.Path.{sym, ap, _∙_}
 use mathlib.Core.Bool.{Bool, _&&_}
 use borrow.Author.Tests.{not-true, not-false}
 use borrow.Author.Needs.{needs}
-use Rattle.node_rules.specs.Sending.{lowestAt}
+use Rattle.node_rules.specs.Hearing.{lowestAt}
 use Rattle.node.proofs.replies.answers.Statement.{statement}
 use Rattle.node.proofs.replies.answers.Tie as tie
 

@@ -7,20 +7,20 @@ use native.Mathlib.Omega.{arith}
 use borrow.Author.Tests.{not-true, not-false}
 use borrow.Author.Needs.{needs}
 use lib.ListN.{length, length-append}
-use Rattle.node_rules.specs.Sending.{answersAt, chosen}
+use Rattle.node_rules.specs.Hearing.{answersAt, chosen}
 use Rattle.node_rules.proofs.Once.{chosen-few}
 use Rattle.node.proofs.Choosing.{chosen-none, chosen-passed, chosen-next}
 use Rattle.node.proofs.replies.count_answers.Statement.{statement}
 use Rattle.node.proofs.replies.count_answers.Tie as tie
 
 abbrev Inv-loop : tie.InvT-loop
-Inv-loop inquiry automatic roles events n₀ i₀ n i = (i ≤ length roles) × (n ≡ length (chosen i (answersAt automatic roles events inquiry)))
+Inv-loop heard automatic roles events n₀ i₀ n i = (i ≤ length roles) × (n ≡ length (chosen i (answersAt automatic roles events heard)))
 
 abbrev μ-loop : tie.MeasureT-loop
-μ-loop inquiry automatic roles events n₀ i₀ n i = length roles - i
+μ-loop heard automatic roles events n₀ i₀ n i = length roles - i
 
 abbrev test : tie.Start Inv-loop μ-loop → ℕ → Bool
-test s = let a = s .args in answersAt (a .automatic) (a .roles .now) (a .events .now) (a .inquiry)
+test s = let a = s .args in answersAt (a .automatic) (a .roles .now) (a .events .now) (a .heard)
 
 loop-holds : tie.Need-loop-holds Inv-loop μ-loop
 loop-holds c = (omega arith, sym (ap length (chosen-none (test (c .before .before)))))

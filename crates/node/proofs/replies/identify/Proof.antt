@@ -3,8 +3,9 @@ use Prim.Native.Nat.{ℕ}
 use mathlib.Core.Path.{sym, ap, _∙_, subst}
 use mathlib.Core.List.{List}
 use borrow.Author.Needs.{needs}
-use Rattle.message.specs.Writing.{pasted}
-use Rattle.node.specs.Answers.{boardOf}
+use Rattle.numbers.specs.Numbers.{pasted}
+use Rattle.node_rules.specs.Boards.{withMarks}
+use Rattle.node.specs.Lent.{held, boardOf}
 use Rattle.node_rules.specs.Sending.{Plain}
 use Rattle.node.proofs.Replying.{identified-bytes}
 use Rattle.node_rules.proofs.Pieces.{identified-plain}
@@ -43,9 +44,9 @@ same-length-2 c = search needs
 returns : tie.Need-returns
 returns c =
     let a = c .before .before .before .before .before .before .before .before .before .before .before .before .before .before .before .before .before .args in
-    let b = boardOf (a .node) (a .roles .now) (a .events .now) (a .statuses .now) (a .marks .now) in
+    let b = boardOf (a .node) (held (a .roles) (a .events) (a .statuses) (a .marks)) in
     let bytes = identified-bytes b (a .slot) _ (c .before .before .before .before .before .before .before .before .identified-mti .ensures) in (
-      c .before .before .advertise .ensures,
+      ap (withMarks (b .slots)) (c .before .before .advertise .ensures),
       c .before .before .before .before .before .before .put .ensures ∙ ap (λ (l : List ℕ). pasted (a .at) l (a .out .now)) bytes,
     )
 

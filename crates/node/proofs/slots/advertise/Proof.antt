@@ -6,8 +6,9 @@ use mathlib.Core.List.{List, _++_}
 use native.Mathlib.Omega.{arith}
 use borrow.Author.Needs.{needs}
 use lib.ListN.{length, getD, drop, length-set}
-use Rattle.node_rules.specs.Boards.{advertised, hasAt, each}
-use Rattle.node_rules.proofs.Each.{each-none, each-old, each-more, each-all}
+use Rattle.node_rules.specs.Boards.{advertised, hasAt}
+use Rattle.basics.specs.Lists.{each}
+use Rattle.basics.proofs.Each.{each-none, each-old, each-more, each-all}
 use Rattle.node.proofs.slots.advertise.Statement.{statement}
 use Rattle.node.proofs.slots.advertise.Tie as tie
 
@@ -56,8 +57,8 @@ loop-again c =
     let a = c .before .before .before .before .before .before .before .before .before .before .args in
     let l = c .before .before .before .before .loop in
     let mark = (settled (a .roles .now) (a .events .now) (a .slot) (a .marks .now)) in
-    let old = each-old mark (l .i) (a .marks .now) (l .marks) (l .inv .2) (omega arith) in
-    (omega arith, length-set (l .marks) (l .i) (c .marked .result) ∙ l .inv .1, each-more mark (l .i) (a .marks .now) (l .marks) (l .inv .2) (omega arith) (c .marked .result) (c .marked .ensures ∙ ap₂ (λ (t : Bool) (m : ℕ). cond t advertised m) (c .before .before .has .ensures) old))
+    let old = each-old 0 mark (l .i) (a .marks .now) (l .marks) (l .inv .2) (omega arith) in
+    (omega arith, length-set (l .marks) (l .i) (c .marked .result) ∙ l .inv .1, each-more 0 mark (l .i) (a .marks .now) (l .marks) (l .inv .2) (omega arith) (c .marked .result) (c .marked .ensures ∙ ap₂ (λ (t : Bool) (m : ℕ). cond t advertised m) (c .before .before .has .ensures) old))
 
 same-length : tie.Need-same-length Inv-loop μ-loop
 same-length c = omega arith

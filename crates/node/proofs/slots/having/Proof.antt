@@ -3,10 +3,10 @@ use Prim.Native.Nat.{ℕ, _-_, _≤_}
 use mathlib.Core.Path.{_≡_, refl, ap, _∙_}
 use native.Mathlib.Omega.{arith}
 use lib.ListN.{length}
-use Rattle.sets.specs.Sets.{setOf}
-use Rattle.sets.proofs.Sets.{set-below}
+use Rattle.basics.specs.Sets.{setOf}
+use Rattle.basics.proofs.Sets.{set-below}
 use Rattle.node_rules.specs.Boards.{hasAt}
-use Rattle.sets.proofs.Bits.{next-bit}
+use Rattle.basics.proofs.Bits.{next-bit}
 use Rattle.node.proofs.slots.having.Statement.{statement}
 use Rattle.node.proofs.slots.having.Tie as tie
 

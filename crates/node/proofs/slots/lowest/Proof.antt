@@ -5,9 +5,9 @@ use mathlib.Core.Bool.{Bool, false, not}
 use mathlib.Core.List.{List}
 use native.Mathlib.Omega.{arith}
 use lib.ListN.{getD}
-use Rattle.sets.specs.Sets.{anyBelow}
+use Rattle.basics.specs.Sets.{anyBelow}
 use Rattle.node_rules.specs.Boards.{hasAt}
-use Rattle.node.proofs.Below.{one-passes, next-fails}
+use Rattle.basics.proofs.Below.{one-passes, next-fails}
 use Rattle.node.proofs.slots.lowest.Statement.{statement}
 use Rattle.node.proofs.slots.lowest.Tie as tie
 

@@ -4,7 +4,7 @@ use mathlib.Core.Path.{sym, ap}
 use native.Mathlib.Nat.{add-zero}
 use native.Mathlib.Omega.{arith}
 use borrow.Author.Needs.{needs}
-use Rattle.sets.proofs.Bits.{one-bit, bit-fits}
+use Rattle.basics.proofs.Bits.{one-bit, bit-fits}
 use Rattle.node.proofs.slots.put.Statement.{statement}
 use Rattle.node.proofs.slots.put.Tie as tie
 

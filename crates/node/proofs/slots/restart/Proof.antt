@@ -9,8 +9,9 @@ use mir.Val.{boolByte}
 use lib.ListN.{length, getD, drop, length-set}
 use Rattle.range.specs.declared.Block.{Block}
 use Rattle.range.specs.Range.{inBlock}
-use Rattle.node_rules.specs.Boards.{advertised, unadvertised, each}
-use Rattle.node_rules.proofs.Each.{each-none, each-more, each-all}
+use Rattle.node_rules.specs.Boards.{advertised, unadvertised}
+use Rattle.basics.specs.Lists.{each}
+use Rattle.basics.proofs.Each.{each-none, each-more, each-all}
 use Rattle.node.proofs.Marks.{bool-mark}
 use Rattle.node.proofs.slots.restart.Statement.{statement}
 use Rattle.node.proofs.slots.restart.Tie as tie
@@ -54,7 +55,7 @@ loop-again : tie.Need-loop-again Inv-loop μ-loop
 loop-again c =
     let a = c .before .before .before .before .before .before .args in
     let l = c .before .before .before .loop in
-    (omega arith, length-set (l .marks) (l .i) (boolByte (c .in-block .result)) ∙ l .inv .1, each-more (settled (a .automatic) (a .events .now)) (l .i) (a .marks .now) (l .marks) (l .inv .2) (omega arith) (boolByte (c .in-block .result)) (ap boolByte (c .in-block .ensures) ∙ bool-mark (inBlock (a .automatic) (getD (a .events .now) (l .i) 0))))
+    (omega arith, length-set (l .marks) (l .i) (boolByte (c .in-block .result)) ∙ l .inv .1, each-more 0 (settled (a .automatic) (a .events .now)) (l .i) (a .marks .now) (l .marks) (l .inv .2) (omega arith) (boolByte (c .in-block .result)) (ap boolByte (c .in-block .ensures) ∙ bool-mark (inBlock (a .automatic) (getD (a .events .now) (l .i) 0))))
 
 same-length : tie.Need-same-length Inv-loop μ-loop
 same-length c = omega arith
