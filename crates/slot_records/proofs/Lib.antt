@@ -7,4 +7,4 @@ pub mod Turns
 pub mod Lending
 pub mod Locals
 pub mod Parts
-pub mod Told
+pub mod Promised

@@ -1,9 +1,8 @@
 -- A list of slot records as the node's four lists (document 01, "Matching forms to places": "the slots as a lent list of slot records").
 use Prim.Native.Nat.{ℕ}
 use mathlib.Core.List.{List, map}
-use Rattle.node_rules.specs.declared.Node.{Node}
-use Rattle.node_rules.specs.Boards.{Slots, Board}
-use Rattle.node.specs.Answers.{slotsOf}
+use Rattle.node_rules.specs.Boards.{Slots}
+use Rattle.node.specs.Lent.{slotsOf}
 use Rattle.slot_records.specs.declared.Slot.{Slot}
 
 abbrev pub rolesOf : List Slot → List ℕ
@@ -20,7 +19,3 @@ marksOf ss = map (λ s. s .mark) ss
 
 abbrev pub apart : List Slot → Slots
 apart ss = slotsOf (rolesOf ss) (eventsOf ss) (statusesOf ss) (marksOf ss)
-
--- A node's record and its slot records as a board.
-abbrev pub boardBy : Node → List Slot → Board
-boardBy node ss = record { node = node; slots = apart ss }

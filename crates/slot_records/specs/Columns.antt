@@ -5,9 +5,8 @@ use mathlib.Core.Bool.{cond}
 use mathlib.Core.List.{List}
 use lib.Dec.{ltb}
 use lib.ListN.{length, getD, set, replicate, take}
-use Rattle.node_rules.specs.declared.Node.{Node}
-use Rattle.node_rules.specs.Boards.{Slots, Board}
-use Rattle.node.specs.Answers.{slotsOf}
+use Rattle.node_rules.specs.Boards.{Slots}
+use Rattle.node.specs.Lent.{slotsOf}
 use Rattle.slot_records.specs.declared.Slot.{Slot}
 use Rattle.slot_records.specs.declared.columns.Columns.{Columns}
 
@@ -38,9 +37,6 @@ back c i s = cond (ltb i places) (slotAt c i) s
 -- The places that are used.
 abbrev pub used : Columns → Slots
 used c = slotsOf (take (few (c .count)) (c .roles)) (take (few (c .count)) (c .events)) (take (few (c .count)) (c .statuses)) (take (few (c .count)) (c .marks))
-
-abbrev pub boardIn : Node → Columns → Board
-boardIn node c = record { node = node; slots = used c }
 
 -- Columns of so many slots, with every place there.
 pub record Fits (n : ℕ) (c : Columns) : Type 0 where

@@ -1,12 +1,10 @@
-// Slots in four lists of numbers, and the node's calls on them.
+// Slots in four lists of numbers, and a call of the node on them.
 ghost use mathlib.Core.Path.{_≡_};
-ghost use mathlib.Core.List.{[]};
-ghost use lib.ListN.{length};
-ghost use Rattle.node_rules.specs.Calls.{initialise as initialiseOn, announce as announceOn, produce as produceOn, setStatus as setStatusOn, receive as receiveOn};
-ghost use Rattle.node.specs.Answers.{left, leftBy};
-ghost use Rattle.slot_records.specs.Columns.{few, blankOf, placed, back as backOf, used, boardIn, Fits};
+ghost use Rattle.node.specs.Answers.{leaves, performed};
+ghost use Rattle.slot_records.specs.Columns.{few, blankOf, placed, back as backOf, used, Fits};
 use crate::Slot;
 use node::Answer;
+use node_rules::Call;
 use node_rules::Node;
 
 // How many slots there are, and the numbers of the first 65, one more than a board may have, so that a longer list is seen.
@@ -73,123 +71,34 @@ fn used_places(count: usize) -> usize
     if count < 65 { count } else { 65 }
 }
 
-pub(crate) fn initialise(node: Node, columns: Columns, out: &mut [u8]) -> Done
-    ensures { λ d. ⌜ left (d .answer) (used (d .columns)) (now (out .exit)) ≡ leftBy (now (out .entry)) (initialiseOn (boardIn node columns) (length (now (out .entry)))) ⌝ }
-    ensures { λ d. ⌜ Fits (columns .count) (d .columns) ⌝ }
-{
-    let roles = columns.roles;
-    let events = columns.events;
-    let statuses = columns.statuses;
-    let mut marks = columns.marks;
-    let n = used_places(columns.count);
-    let answer = node::initialise(
-        node,
-        &roles[0..n],
-        &events[0..n],
-        &statuses[0..n],
-        &mut marks[0..n],
-        out,
-    );
-    let mut after = columns;
-    after.marks = marks;
-    Done {
-        answer,
-        columns: after,
-    }
-}
-
-pub(crate) fn announce(node: Node, slot: usize, columns: Columns, out: &mut [u8]) -> Done
-    ensures { λ d. ⌜ left (d .answer) (used (d .columns)) (now (out .exit)) ≡ leftBy (now (out .entry)) (announceOn (boardIn node columns) slot (length (now (out .entry)))) ⌝ }
-    ensures { λ d. ⌜ Fits (columns .count) (d .columns) ⌝ }
-{
-    let roles = columns.roles;
-    let events = columns.events;
-    let statuses = columns.statuses;
-    let mut marks = columns.marks;
-    let n = used_places(columns.count);
-    let answer = node::announce(
-        node,
-        slot,
-        &roles[0..n],
-        &events[0..n],
-        &statuses[0..n],
-        &mut marks[0..n],
-        out,
-    );
-    let mut after = columns;
-    after.marks = marks;
-    Done {
-        answer,
-        columns: after,
-    }
-}
-
-pub(crate) fn produce(node: Node, slot: usize, columns: Columns, out: &mut [u8]) -> Done
-    ensures { λ d. ⌜ left (d .answer) (used (d .columns)) (now (out .exit)) ≡ leftBy (now (out .entry)) (produceOn (boardIn node columns) slot (length (now (out .entry)))) ⌝ }
-    ensures { λ d. ⌜ Fits (columns .count) (d .columns) ⌝ }
-{
-    let roles = columns.roles;
-    let events = columns.events;
-    let statuses = columns.statuses;
-    let marks = columns.marks;
-    let n = used_places(columns.count);
-    let answer = node::produce(
-        node,
-        slot,
-        &roles[0..n],
-        &events[0..n],
-        &statuses[0..n],
-        &marks[0..n],
-        out,
-    );
-    Done { answer, columns }
-}
-
-pub(crate) fn set_status(node: Node, slot: usize, status: u8, columns: Columns) -> Done
-    ensures { λ d. ⌜ left (d .answer) (used (d .columns)) [] ≡ leftBy [] (setStatusOn (boardIn node columns) slot status) ⌝ }
+// Any call of the node on the places that are used.
+pub(crate) fn perform(
+    node: Node,
+    call: Call,
+    bytes: &[u8],
+    columns: Columns,
+    out: &mut [u8],
+) -> Done
+    ensures { λ d. ⌜ leaves (d .answer) (used (d .columns)) out ≡ performed node call (now (bytes .entry)) (used columns) out ⌝ }
     ensures { λ d. ⌜ Fits (columns .count) (d .columns) ⌝ }
 {
     let roles = columns.roles;
     let events = columns.events;
     let mut statuses = columns.statuses;
-    let marks = columns.marks;
-    let n = used_places(columns.count);
-    let answer = node::set_status(
-        node,
-        slot,
-        status,
-        &roles[0..n],
-        &events[0..n],
-        &mut statuses[0..n],
-        &marks[0..n],
-    );
-    let mut after = columns;
-    after.statuses = statuses;
-    Done {
-        answer,
-        columns: after,
-    }
-}
-
-pub(crate) fn receive(node: Node, bytes: &[u8], columns: Columns, out: &mut [u8]) -> Done
-    ensures { λ d. ⌜ left (d .answer) (used (d .columns)) (now (out .exit)) ≡ leftBy (now (out .entry)) (receiveOn (boardIn node columns) (now (bytes .entry)) (length (now (out .entry)))) ⌝ }
-    ensures { λ d. ⌜ Fits (columns .count) (d .columns) ⌝ }
-{
-    let roles = columns.roles;
-    let events = columns.events;
-    let statuses = columns.statuses;
     let mut marks = columns.marks;
     let n = used_places(columns.count);
-    let answer = node::receive(
+    let answer = node::perform(
         node,
+        call,
         bytes,
         &roles[0..n],
         &events[0..n],
-        &statuses[0..n],
+        &mut statuses[0..n],
         &mut marks[0..n],
         out,
     );
     let mut after = columns;
+    after.statuses = statuses;
     after.marks = marks;
     Done {
         answer,

@@ -1,9 +1,7 @@
 // node::initialise for a node's own record, by value.
 ghost use mathlib.Core.Path.{_≡_};
-ghost use lib.ListN.{length};
-ghost use Rattle.node_rules.specs.Calls.{initialise as initialiseOn};
-ghost use Rattle.node.specs.Answers.{slotsOf, boardOf};
-ghost use Rattle.slot_records.specs.Records.{recordLeft, recordLeftBy, nodeIn, startedBy};
+ghost use Rattle.node.specs.Lent.{entered, left};
+ghost use Rattle.slot_records.specs.Records.{leavesRecord, initialisesRecord, startedBy};
 use crate::Record;
 use node_rules::Node;
 
@@ -18,11 +16,11 @@ pub(crate) fn start(
     own: Record,
     roles: &[u8],
     events: &[u64],
-    statuses: &[u8],
+    statuses: &mut [u8],
     marks: &mut [u8],
     out: &mut [u8],
 ) -> Started
-    ensures { λ s. ⌜ recordLeft (s .refusal) (startedBy own s) (slotsOf (now (roles .entry)) (now (events .entry)) (now (statuses .entry)) (now (marks .exit))) (now (out .exit)) ≡ recordLeftBy own (now (out .entry)) (initialiseOn (boardOf (nodeIn own) (now (roles .entry)) (now (events .entry)) (now (statuses .entry)) (now (marks .entry))) (length (now (out .entry)))) ⌝ }
+    ensures { λ s. ⌜ leavesRecord (s .refusal) (startedBy own s) (left roles events statuses marks) out ≡ initialisesRecord own (entered roles events statuses marks) out ⌝ }
 {
     let automatic = own.automatic;
     let node = Node {

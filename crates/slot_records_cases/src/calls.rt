@@ -2,9 +2,9 @@
 use crate::files;
 use crate::own;
 use crate::records;
-use slot_records::Slot;
 use node::Answer;
 use node_rules::Node;
+use slot_records::Slot;
 
 pub(crate) struct Board {
     pub node: Node,
@@ -21,26 +21,22 @@ pub(crate) struct Made {
 pub(crate) fn make(board: Board, file: &[u8], at: usize, out: &mut [u8]) -> Made {
     let node = board.node;
     let slots = board.slots;
-    let count = files::within(board.count);
-    let number = files::byte(file, at);
+    let count = files::lower(board.count, 100);
     let end = files::message_end(file, at);
-    let start = files::next(at, 5);
-    let from = files::lower(start, end);
-    let room = files::lower(files::room_at(file, at), out.len());
+    let from = files::lower(files::next(at, 5), end);
+    let room = files::lower(files::two_at(file, files::next(at, 1)), out.len());
     let driven = records::drive(
-        number,
-        files::slot_in(file, at),
-        files::byte(file, files::next(at, 2)),
         node,
+        files::call_at(file, at),
+        &file[from..end],
         slots,
         count,
-        &file[from..end],
         &mut out[0..room],
     );
     let answer = driven.answer;
     let after = driven.slots;
     let next = answer.node;
-    if number == 1 {
+    if files::byte(file, at) == 1 {
         own::compare(
             node,
             own::lists_of(slots),

@@ -2,8 +2,9 @@
 ghost use Prim.Native.Nat.{_≤_};
 ghost use lib.ListN.{length};
 use crate::calls::Board;
-use slot_records::Slot;
+use node_rules::Call;
 use node_rules::Node;
+use slot_records::Slot;
 
 // The board of the file, not Initialized.
 pub(crate) fn laid_out(file: &[u8]) -> Board {
@@ -21,11 +22,11 @@ pub(crate) fn laid_out(file: &[u8]) -> Board {
     }
     Board {
         node: Node {
-            id: number(file, 0, 8),
+            id: numbers::read_at(file, 0, 8),
             state: 0,
-            automatic: range::block_of(number(file, 8, 8)),
+            automatic: range::block_of(numbers::read_at(file, 8, 8)),
         },
-        count: slot_count(file),
+        count: byte(file, 16) as usize,
         slots,
     }
 }
@@ -33,23 +34,10 @@ pub(crate) fn laid_out(file: &[u8]) -> Board {
 fn slot_at(file: &[u8], at: usize) -> Slot {
     Slot {
         role: byte(file, at),
-        event: number(file, next(at, 1), 8),
+        event: numbers::read_at(file, next(at, 1), 8),
         status: byte(file, next(at, 9)),
         mark: 0,
     }
-}
-
-pub(crate) fn slot_count(file: &[u8]) -> usize
-    ensures { λ n. ⌜ n ≤ 100 ⌝ }
-{
-    within(byte(file, 16) as usize)
-}
-
-// At most the slots that a board file may have.
-pub(crate) fn within(count: usize) -> usize
-    ensures { λ n. ⌜ n ≤ 100 ⌝ }
-{
-    lower(count, 100)
 }
 
 pub(crate) fn lower(a: usize, b: usize) -> usize
@@ -60,7 +48,7 @@ pub(crate) fn lower(a: usize, b: usize) -> usize
 
 // Where the calls begin.
 pub(crate) fn calls_at(file: &[u8]) -> usize {
-    17 + slot_count(file) * 10
+    17 + byte(file, 16) as usize * 10
 }
 
 // Where the call after the one at a place begins.
@@ -68,54 +56,38 @@ pub(crate) fn after(file: &[u8], at: usize) -> usize {
     match byte(file, at) {
         1 => next(at, 3),
         4 => next(at, 3),
-        5 => next(next(at, 5), message_length(file, at)),
+        5 => next(next(at, 5), two_at(file, next(at, 3))),
         _ => next(at, 4),
     }
 }
 
-// The room that the call at a place has.
-pub(crate) fn room_at(file: &[u8], at: usize) -> usize {
-    number(file, next(at, 1), 2) as usize
+// The number in two bytes.
+pub(crate) fn two_at(file: &[u8], at: usize) -> usize {
+    numbers::read_at(file, at, 2) as usize
 }
 
-fn message_length(file: &[u8], at: usize) -> usize {
-    number(file, next(at, 3), 2) as usize
-}
-
-// Where the message of the call at a place ends, 0 where it has none.
+// Where the message of the call at a place ends, 0 where the file ends before it.
 pub(crate) fn message_end(file: &[u8], at: usize) -> usize
     ensures { λ n. ⌜ n ≤ length (now (file .entry)) ⌝ }
 {
-    let end = next(next(at, 5), message_length(file, at));
-    if byte(file, at) != 5 {
-        return 0;
-    }
-    if file.len() < end {
-        return 0;
-    }
-    end
+    let end = next(next(at, 5), two_at(file, next(at, 3)));
+    if file.len() < end { 0 } else { end }
 }
 
-// The slot that the call at a place names.
-pub(crate) fn slot_in(file: &[u8], at: usize) -> usize {
-    let bytes = if byte(file, at) == 4 { 1 } else { 3 };
-    byte(file, next(at, bytes)) as usize
+// The call at a place; only Receive reads the message there.
+pub(crate) fn call_at(file: &[u8], at: usize) -> Call {
+    let slot = byte(file, next(at, 3)) as usize;
+    match byte(file, at) {
+        1 => Call::Initialise,
+        2 => Call::Announce(slot),
+        3 => Call::Produce(slot),
+        4 => Call::SetStatus(byte(file, next(at, 1)) as usize, byte(file, next(at, 2))),
+        _ => Call::Receive,
+    }
 }
 
 pub(crate) fn byte(file: &[u8], at: usize) -> u8 {
     if at < file.len() { file[at] } else { 0 }
-}
-
-// The number in so many bytes from a place on.
-pub(crate) fn number(file: &[u8], at: usize, width: usize) -> u64 {
-    let end = next(at, width);
-    if end <= at {
-        return 0;
-    }
-    if file.len() < end {
-        return 0;
-    }
-    numbers::read(&file[at..end])
 }
 
 // So many bytes on, within twice the size of a file.

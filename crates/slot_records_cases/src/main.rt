@@ -42,7 +42,7 @@ fn call(board: Board, file: &[u8], at: usize, k: usize) -> Board {
     let next = made.board;
     let slots = next.slots;
     let lists = own::lists_of(slots);
-    say_line(k, answer, lists, files::within(next.count), &out);
+    say_line(k, answer, lists, files::lower(next.count, 100), &out);
     next
 }
 

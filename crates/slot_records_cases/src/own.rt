@@ -2,11 +2,11 @@
 use crate::files;
 use crate::records;
 use crate::records::Restarted;
-use slot_records::Record;
-use slot_records::Slot;
 use libc::STDOUT_FILENO;
 use node::Answer;
 use node_rules::Node;
+use slot_records::Record;
+use slot_records::Slot;
 
 pub(crate) struct Lists {
     pub roles: [u8; 100],
@@ -43,10 +43,20 @@ pub(crate) fn compare(
     after: Lists,
     out: &[u8],
 ) {
+    let mut statuses = before.statuses;
     let mut marks = before.marks;
+    let statuses_after = after.statuses;
     let marks_after = after.marks;
     let mut written = [0u8; 2048];
-    let restarted = by_record(node, before, count, out.len(), &mut marks, &mut written);
+    let restarted = by_record(
+        node,
+        before,
+        count,
+        out.len(),
+        &mut statuses,
+        &mut marks,
+        &mut written,
+    );
     let own = restarted.own;
     let next = answer.node;
     let room = files::lower(out.len(), 2048);
@@ -57,6 +67,9 @@ pub(crate) fn compare(
         differs();
     }
     if own.written != answer.bytes {
+        differs();
+    }
+    if !same(&statuses, &statuses_after) {
         differs();
     }
     if !same(&marks, &marks_after) {
@@ -73,14 +86,15 @@ fn by_record(
     lists: Lists,
     count: usize,
     room: usize,
+    statuses: &mut [u8],
     marks: &mut [u8],
     written: &mut [u8],
 ) -> Restarted {
     let roles = lists.roles;
     let events = lists.events;
-    let statuses = lists.statuses;
     let automatic = node.automatic;
-    let n = files::within(count);
+    let n = files::lower(count, 100);
+    let most_statuses = files::lower(n, statuses.len());
     let most_marks = files::lower(n, marks.len());
     let most_written = files::lower(room, written.len());
     records::restart(
@@ -92,7 +106,7 @@ fn by_record(
         },
         &roles[0..n],
         &events[0..n],
-        &statuses[0..n],
+        &mut statuses[0..most_statuses],
         &mut marks[0..most_marks],
         &mut written[0..most_written],
     )

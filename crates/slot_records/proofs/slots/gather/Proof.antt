@@ -57,14 +57,14 @@ use Rattle.slot_records.proofs.columns.Columns.Laws as C′
 use Rattle.slot_records.proofs.Turns.{Nearer, byte-fits, index-fits, nearer, nearer-ends, next-fits, next-within, slots-ty, word}
 use Rattle.slot_records.proofs.columns.blank as blank
 use Rattle.slot_records.proofs.columns.blank.Symbol as blank-def
-use Rattle.slot_records.proofs.columns.blank.Symbol.{name as #faces·columns·blank}
+use Rattle.slot_records.proofs.columns.blank.Symbol.{name as #slot-records·columns·blank}
 use Rattle.slot_records.proofs.columns.blank.Met as blank-thm
 use Rattle.slot_records.proofs.columns.place as place
 use Rattle.slot_records.proofs.columns.place.Symbol as place-def
-use Rattle.slot_records.proofs.columns.place.Symbol.{name as #faces·columns·place}
+use Rattle.slot_records.proofs.columns.place.Symbol.{name as #slot-records·columns·place}
 use Rattle.slot_records.proofs.columns.place.Met as place-thm
 use Rattle.slot_records.proofs.slots.gather as f
-use Rattle.slot_records.proofs.slots.gather.Key.{name as #faces·slots·gather}
+use Rattle.slot_records.proofs.slots.gather.Key.{name as #slot-records·slots·gather}
 use Rattle.slot_records.proofs.slots.gather.Statement as stated
 use Rattle.slot_records.proofs.slots.gather.Code as code
 use Rattle.slot_records.proofs.slots.gather.Code.Mir as Mir
@@ -102,7 +102,7 @@ module _ {M : Type 1} (𝓤 : URA M) (H : Heap 𝓤) (A : Atoms 𝓤) (mem : Mem
   Place = tripleOf 𝓤 H A place.signature (place.spec 𝓤 H A mem run)
 
 module _ {M : Type 1} (𝓤 : URA M) (H : Heap 𝓤) (A : Atoms 𝓤) (W : Given 𝓤 H A) (mem : Memory → SProp 𝓤) (run : Routine → Fun 𝓤) (𝓣 : Tables 𝓤 H)
-    (blank-met : Triple 𝓤 (𝓣 .C #faces·columns·blank) (Blank 𝓤 H A mem run)) (place-met : Triple 𝓤 (𝓣 .C #faces·columns·place) (Place 𝓤 H A mem run)) where
+    (blank-met : Triple 𝓤 (𝓣 .C #slot-records·columns·blank) (Blank 𝓤 H A mem run)) (place-met : Triple 𝓤 (𝓣 .C #slot-records·columns·place) (Place 𝓤 H A mem run)) where
   module _ (κ : Lft) (q : Share) (b o : ℕ) (γ : GName) (ys : List Slot) (room : Room S.the-row (length ys)) where
     abbrev n : ℕ
     n = length ys
@@ -239,7 +239,7 @@ pub gather-spec : {M : Type 1} → stated.statement M
 unfolding code.routine tablesOf
 gather-spec 𝓤 H 𝓜 𝓖 𝓡 =
     entered 𝓤 H (tripleOf 𝓤 H (𝓖 .A) f.signature (f.spec 𝓤 H (𝓖 .A) (𝓜 .mem) (𝓡 .run)))
-    (tables 𝓤 H 𝓜 𝓡 code.env .C) (tables 𝓤 H 𝓜 𝓡 code.env .Λ) #faces·slots·gather code.function (code.unfolded 𝓤 H 𝓜 𝓡)
+    (tables 𝓤 H 𝓜 𝓡 code.env .C) (tables 𝓤 H 𝓜 𝓡 code.env .Λ) #slot-records·slots·gather code.function (code.unfolded 𝓤 H 𝓜 𝓡)
     (meets 𝓤 H (𝓖 .A) (givenOf 𝓤 H 𝓜 𝓖) (𝓜 .mem) (𝓡 .run) (tablesOf 𝓤 H 𝓜 (tables 𝓤 H 𝓜 𝓡 code.env))
-    (cited 𝓤 H (Blank 𝓤 H (𝓖 .A) (𝓜 .mem) (𝓡 .run)) 𝓜 𝓡 code.env #faces·columns·blank blank-def.routine code.calls-faces·columns·blank (blank-thm.met 𝓤 H 𝓜 𝓖 𝓡))
-    (cited 𝓤 H (Place 𝓤 H (𝓖 .A) (𝓜 .mem) (𝓡 .run)) 𝓜 𝓡 code.env #faces·columns·place place-def.routine code.calls-faces·columns·place (place-thm.met 𝓤 H 𝓜 𝓖 𝓡)))
+    (cited 𝓤 H (Blank 𝓤 H (𝓖 .A) (𝓜 .mem) (𝓡 .run)) 𝓜 𝓡 code.env #slot-records·columns·blank blank-def.routine code.calls-slot-records·columns·blank (blank-thm.met 𝓤 H 𝓜 𝓖 𝓡))
+    (cited 𝓤 H (Place 𝓤 H (𝓖 .A) (𝓜 .mem) (𝓡 .run)) 𝓜 𝓡 code.env #slot-records·columns·place place-def.routine code.calls-slot-records·columns·place (place-thm.met 𝓤 H 𝓜 𝓖 𝓡)))

@@ -18,8 +18,8 @@ use contract.Lifetimes.{Lfts, Shares, toks}
 use contract.Monad.{Fun}
 use contract.Running.{givenOf, tables, tablesOf}
 use types.Kit.{Given, ‵, raw, _⊛_, some, later, _$_, _∵_, !, qed, by, move, drop, use1, use3, split, join, pick, rewrite, fsplit, fjoin, fpick, fpack, suffices, await, done}
-use types.Run.{look, init, forget, stop, hop, fld, from, load, of-opd, addr, and-then, no-more, assigns, land, returns, enter, alloc1, alloc0, params1, pass1, pass0, free1, free0}
-use types.Part.{whole, sub, look-in, agg}
+use types.Run.{look, init, stop, from, of-opd, addr, and-then, no-more, returns, enter, alloc1, alloc0, params1, pass1, pass0, free0}
+use types.Part.{agg}
 use types.SemTy.{Body}
 use types.Tokens.{lft-new, lft-end}
 use sound.WpLaws.{FmC, fmOf, WpFn-mono}
@@ -42,24 +42,25 @@ use denote.Triple.Clauses.{Lasts, atExit, ensured, lasts}
 use denote.Triple.Table.{entered, cited}
 use denote.Triple.Walked.{Stays, walkOf, Walks, ends-at, walked, walk-meets}
 use Rattle.slot_records.specs.declared.Record.{Record}
-use Rattle.slot_records.proofs.Told.{told, told-go}
+use Rattle.slot_records.proofs.Promised.{promised, promised-go}
+use Rattle.slot_records.proofs.Locals.{fit, val, ptr, remade, sets, holds as given, frees1}
 use Rattle.slot_records.proofs.Record as R
 use Rattle.slot_records.proofs.Record.Laws as R′
 use Rattle.slot_records.proofs.initialise_record as g
 use Rattle.slot_records.proofs.initialise_record.Symbol as g-def
-use Rattle.slot_records.proofs.initialise_record.Symbol.{name as #faces·initialise-record}
+use Rattle.slot_records.proofs.initialise_record.Symbol.{name as #slot-records·initialise-record}
 use Rattle.slot_records.proofs.initialise_record.Met as g-thm
 use Rattle.slot_records_cases.specs.declared.records.Restarted.{Restarted}
 use Rattle.slot_records_cases.proofs.records.Restarted as A′
 use Rattle.slot_records_cases.proofs.records.Restarted.Laws as A″
-use Rattle.slot_records_cases.proofs.records.restart.Key.{name as #faces-cases·records·restart}
+use Rattle.slot_records_cases.proofs.records.restart.Key.{name as #slot-records-cases·records·restart}
 use Rattle.slot_records_cases.proofs.records.restart as f
 use Rattle.slot_records_cases.proofs.records.restart.Statement as stated
 use Rattle.slot_records_cases.proofs.records.restart.Code as code
 use Rattle.slot_records_cases.proofs.records.restart.Code.Mir as M′
 
 abbrev stayed : Stays (f.ended .signature .params) (f.ended .kept)
-stayed = told (f.ended .signature .params) (f.ended .kept)
+stayed = promised (f.ended .signature .params) (f.ended .kept)
 
 abbrev Initialise : {M : Type 1} (𝓤 : URA M) (H : Heap 𝓤) (A : Atoms 𝓤) (mem : Memory → SProp 𝓤) (run : Routine → Fun 𝓤) → Contract 𝓤
 Initialise 𝓤 H A mem run = tripleOf 𝓤 H A g.signature (g.spec 𝓤 H A mem run)
@@ -104,7 +105,7 @@ module _ {M : Type 1} (𝓤 : URA M) (H : Heap 𝓤) (A : Atoms 𝓤) (W : Given
   Tokens = toks 𝓤 A 5 κs qs
 
   abbrev Listed : Fml
-  Listed = owns (ShrSlice (named 0) (κs .0) u8 ∷ ShrSlice (named 1) (κs .1 .0) u64 ∷ ShrSlice (named 2) (κs .1 .1 .0) u8 ∷ MutSlice (named 3) (κs .1 .1 .1 .0) u8 ∷ MutSlice (named 4) (κs .1 .1 .1 .1 .0) u8 ∷ []) (a .1) (at .1)
+  Listed = owns (ShrSlice (named 0) (κs .0) u8 ∷ ShrSlice (named 1) (κs .1 .0) u64 ∷ MutSlice (named 2) (κs .1 .1 .0) u8 ∷ MutSlice (named 3) (κs .1 .1 .1 .0) u8 ∷ MutSlice (named 4) (κs .1 .1 .1 .1 .0) u8 ∷ []) (a .1) (at .1)
 
   -- ---- the call, of the local at l, lent for ν under the name δ
   module _ (l ν : ℕ) (δ : GName) where
@@ -130,53 +131,48 @@ module _ {M : Type 1} (𝓤 : URA M) (H : Heap 𝓤) (A : Atoms 𝓤) (W : Given
         suffices ! _ (ends-at 𝓤 H A f.ended stayed (f.clauses 𝓤 H A at-mem run) W ((κs, qs, tt, a, at), tt) (A″.lowered (answer r z)) (answer r z) (tt, z .1) (tt, (tt, (tt, (tt, (tt, (tt, tt))))))) $
         owned ! A′.the-row (Is A′.the-row) (LL.makes A′.the-type A″.the-plain 𝓤 H A) (answer r z) _ is $ move ! (2 ∷ 0 ∷ []) $ join ! $ move ! (1 ∷ 0 ∷ []) $ join ! $ nothing ! $ move ! (1 ∷ 0 ∷ []) $ done !
 
-  module _ (C : Calls 𝓤 H) (Λ : Loops 𝓤 H) (fm : FmC 𝓤 H (W .laws) C) (known : Triple 𝓤 (C #faces·initialise-record) (Initialise 𝓤 H A at-mem run)) where
+  module _ (C : Calls 𝓤 H) (Λ : Loops 𝓤 H) (fm : FmC 𝓤 H (W .laws) C) (known : Triple 𝓤 (C #slot-records·initialise-record) (Initialise 𝓤 H A at-mem run)) where
     walk : ent 𝓤 (onEntry 𝓤 H A f.signature κs qs a at) (WpFn 𝓤 H C Λ code.function (R′.lowered own ∷ passed) Post)
     walk =
         qed W (raw Tokens ∷ ‵ (fsep (R.the-row .own own (R′.lowered own ∷ [])) Listed) ∷ []) ∵ enter ! C Λ code.function (R′.lowered own ∷ passed) _ $
-        alloc1 ! (λ l₀. alloc1 ! (λ l₁. alloc1 ! (λ l₂. alloc1 ! (λ l₃. alloc1 ! (λ l₄. alloc1 ! (λ l₅. alloc1 ! (λ l₆. alloc1 ! (λ l₇. alloc1 ! (λ l₈. alloc1 ! (λ l₉. alloc1 ! (λ l₁₀. alloc1 ! (λ l₁₁. alloc1 ! (λ l₁₂. alloc1 ! (λ l₁₃. alloc1 ! (λ l₁₄. alloc0 ! $ params1 ! $
-        pass1 ! (init ! 26 refl (LL.lawful R.the-type R′.the-laws 𝓤 H A W .typed own _ own-is .0)) $ pass1 ! (init ! 24 refl (tt, (tt, (record { fits = roles-fit }, tt)))) $ pass1 ! (init ! 22 refl (tt, (tt, (record { fits = events-fit }, tt)))) $ pass1 ! (init ! 20 refl (tt, (tt, (record { fits = statuses-fit }, tt)))) $ pass1 ! (init ! 18 refl (tt, (tt, (record { fits = marks-fit }, tt)))) $ pass1 ! (init ! 16 refl (tt, (tt, (record { fits = out-fit }, tt)))) $ pass0 ! $
-        -- [_14; …; _1; …; room for _0; …; the lists' tokens; what is owned]
-        assigns ! (of-opd ! (load ! (from ! (stop !)) (look ! 26 refl))) (from ! (stop !)) (init ! 14 refl (LL.lawful R.the-type R′.the-laws 𝓤 H A W .typed own _ own-is .0)) $ assigns ! (addr ! (from ! (stop !))) (from ! (stop !)) (init ! 10 refl (tt, tt)) $
-        assigns ! (addr ! (from ! (fld ! refl (hop ! (look-in ! 18 (sub ! 0 refl (whole !))) (stop !))))) (from ! (stop !)) (init ! 8 refl (tt, tt)) $
-        assigns ! (agg ! (and-then ! (load ! (from ! (stop !)) (look ! 8 refl)) (and-then ! (load ! (from ! (fld ! refl (stop !))) (look-in ! 18 (sub ! 1 refl (whole !)))) (no-more !)))) (from ! (stop !)) (init ! 6 refl (tt, (tt, (record { fits = marks-fit }, tt)))) $
-        assigns ! (addr ! (from ! (fld ! refl (hop ! (look-in ! 16 (sub ! 0 refl (whole !))) (stop !))))) (from ! (stop !)) (init ! 4 refl (tt, tt)) $
-        assigns ! (agg ! (and-then ! (load ! (from ! (stop !)) (look ! 4 refl)) (and-then ! (load ! (from ! (fld ! refl (stop !))) (look-in ! 16 (sub ! 1 refl (whole !)))) (no-more !)))) (from ! (stop !)) (init ! 2 refl (tt, (tt, (record { fits = out-fit }, tt)))) $
-        lft-new ! tt (λ ν. move ! (15 ∷ []) $ use1 W (‵ (mem R.the-row .lies own l₇ 0)) (lies 𝓤 H A W own l₇ own-is) $
+        alloc1 ! (λ _. alloc1 ! (λ _. alloc1 ! (λ _. alloc1 ! (λ _. alloc1 ! (λ _. alloc1 ! (λ _. alloc1 ! (λ _. alloc1 ! (λ l₇. alloc1 ! (λ l₈. alloc1 ! (λ _. alloc1 ! (λ _. alloc1 ! (λ _. alloc1 ! (λ _. alloc1 ! (λ _. alloc1 ! (λ _. alloc1 ! (λ _. alloc1 ! (λ _. alloc0 ! $ params1 ! $
+        pass1 ! (init ! 30 refl (LL.lawful R.the-type R′.the-laws 𝓤 H A W .typed own _ own-is .0)) $ pass1 ! (init ! 28 refl (fit roles-fit)) $ pass1 ! (init ! 26 refl (fit events-fit)) $ pass1 ! (init ! 24 refl (fit statuses-fit)) $ pass1 ! (init ! 22 refl (fit marks-fit)) $ pass1 ! (init ! 20 refl (fit out-fit)) $ pass0 ! $
+        -- [_16; …; _1; …; room for _0; …; the lists' tokens; what is owned]
+        sets ! (of-opd ! (val ! 30 refl)) 18 refl (LL.lawful R.the-type R′.the-laws 𝓤 H A W .typed own _ own-is .0) $ sets ! (addr ! (from ! (stop !))) 14 refl (tt, tt) $ sets ! (ptr ! 24 refl refl) 12 refl (tt, tt) $ sets ! (remade ! 24 12 refl refl refl) 10 refl (fit statuses-fit) $
+        sets ! (ptr ! 22 refl refl) 8 refl (tt, tt) $ sets ! (remade ! 22 8 refl refl refl) 6 refl (fit marks-fit) $ sets ! (ptr ! 20 refl refl) 4 refl (tt, tt) $ sets ! (remade ! 20 4 refl refl refl) 2 refl (fit out-fit) $
+        lft-new ! tt (λ ν. move ! (19 ∷ []) $ use1 W (‵ (mem R.the-row .lies own l₇ 0)) (lies 𝓤 H A W own l₇ own-is) $
         use1 W (later (some (λ (δ : GName). ‵ (MutRef (named 0) (ν ∷ []) R.the-row .own (lent l₇ ν δ) (vptr l₇ 0 ∷ [])) ⊛ ‵ (flent (ν ∷ []) (Body (mem R.the-row) l₇ 0 δ))))) (lends-ref 𝓤 H A W R.the-row (named 0) (ν ∷ []) own l₇ 0) $ await ! tt $ pick ! (λ δ. split ! $
-        -- [the reference; the lender's part; ν's token; _14; …; _7 dies; …; room for _0; …; the lists' tokens; what is owned]
-        move ! (33 ∷ []) $ fsplit ! $ drop ! $ move ! (1 ∷ 0 ∷ []) $ fjoin ! $ move ! (2 ∷ 32 ∷ []) $ join ! $ join ! $ nothing ! $ move ! (1 ∷ 0 ∷ []) $ join ! $ use1 W (raw (Initialise 𝓤 H A at-mem run .pre (to-g l₇ ν δ))) (id⊢ 𝓤 _) $
-        -- [what the call asks; the lender's part; _14; …; _7 dies; …; room for _0; …]
-        calls-at ! fm (Initialise 𝓤 H A at-mem run) known (to-g l₇ ν δ) (and-then ! (load ! (from ! (stop !)) (look ! 12 refl)) (and-then ! (load ! (from ! (stop !)) (look ! 25 refl)) (and-then ! (load ! (from ! (stop !)) (look ! 23 refl)) (and-then ! (load ! (from ! (stop !)) (look ! 21 refl)) (and-then ! (load ! (from ! (stop !)) (look ! 8 refl)) (and-then ! (load ! (from ! (stop !)) (look ! 4 refl)) (no-more !))))))) (λ w.
+        -- [the reference; the lender's part; ν's token; _16; …; _7 dies; …; room for _0; …; the lists' tokens; what is owned]
+        move ! (37 ∷ []) $ fsplit ! $ drop ! $ move ! (1 ∷ 0 ∷ []) $ fjoin ! $ move ! (2 ∷ 36 ∷ []) $ join ! $ join ! $ nothing ! $ move ! (1 ∷ 0 ∷ []) $ join ! $ use1 W (raw (Initialise 𝓤 H A at-mem run .pre (to-g l₇ ν δ))) (id⊢ 𝓤 _) $
+        -- [what the call asks; the lender's part; _16; …; _7 dies; …; room for _0; …]
+        calls-at ! fm (Initialise 𝓤 H A at-mem run) known (to-g l₇ ν δ) (and-then ! (val ! 16 refl) (and-then ! (val ! 29 refl) (and-then ! (val ! 27 refl) (and-then ! (val ! 12 refl) (and-then ! (val ! 8 refl) (and-then ! (val ! 4 refl) (no-more !))))))) (λ w.
         use1 W (later (some (λ (r : ℕ). ((‵ (flft (ν ∷ []) fullShare) ⊛ raw Tokens) ⊛ ‵ (u8 .own r (w ∷ []))) ⊛ raw (ensured 𝓤 H A g.ended (g.clauses 𝓤 H A at-mem run) (ν ∷ [], κs) (lent l₇ ν δ, a .1) tt r)))) (id⊢ 𝓤 _) $ await ! tt $ pick ! (λ r.
         split ! $ move ! (1 ∷ []) $ use1 W (some (λ (z : Ends l₇ ν δ). ‵ (lasts g.ended (ν ∷ [], κs) (lent l₇ ν δ, a .1) z) ⊛ raw (g.clauses 𝓤 H A at-mem run (ν ∷ [], κs) (lent l₇ ν δ, a .1) .ensures tt r (atExit g.ended (ν ∷ [], κs) (lent l₇ ν δ, a .1) z)))) (id⊢ 𝓤 _) $ pick ! (λ z.
         split ! $ move ! (1 ∷ []) $ drop ! $ fsplit ! $ move ! (1 ∷ []) $ nothing ! $ fjoin ! $ move ! (2 ∷ []) $ split ! $ move ! (1 ∷ []) $ peeks ! u8 (Is u8) (shows 𝓤 H A u8) r (w ∷ []) (λ is.
-        -- [what the refusal owns; the tokens; the lists' last values; the record's; the lender's part; _14; …; _7 dies; …; room for _0; …]
-        land ! (from ! (stop !)) (init ! 17 refl (uint-lawful 𝓤 H A W w8 .typed r _ is .0)) $ rewrite ! 17 (λ (u : Val). ‵ (fat fullShare (tyInt w8) l₈ 0 u)) (ap only (is .0)) refl $
+        -- [what the refusal owns; the tokens; the lists' last values; the record's; the lender's part; _16; …; _7 dies; …; room for _0; …]
+        given ! 21 refl (uint-lawful 𝓤 H A W w8 .typed r _ is .0) $ rewrite ! 21 (λ (u : Val). ‵ (fat fullShare (tyInt w8) l₈ 0 u)) (ap only (is .0)) refl $
         drop ! $ split ! $ lft-end ! tt $ move ! (0 ∷ 4 ∷ 3 ∷ []) $ use3 W (later (‵ (mem R.the-row .lies (z .0) l₇ 0))) (ref-back 𝓤 H A W R.the-row (ν ∷ []) δ (z .0) l₇ 0) $ await ! tt $
         use1 W (‵ (fat fullShare τ l₇ 0 (R′.lowered (z .0))) ⊛ ‵ (R.the-row .own (z .0) (R′.lowered (z .0) ∷ []))) (holds 𝓤 H A W (z .0) l₇) $ split ! $ move ! (1 ∷ []) $ peeks ! R.the-row (Is R.the-row) (shows 𝓤 H A R.the-row) (z .0) (R′.lowered (z .0) ∷ []) (λ is₂. drop ! $
         let made = made l₇ ν δ r z (is .1) is₂ in
-        -- [_7; the lists' tokens; their last values; _14; …; _7 dies; …; room for _0; …]
-        assigns ! (of-opd ! (load ! (from ! (stop !)) (look ! 0 refl))) (from ! (stop !)) (init ! 3 refl (LL.lawful R.the-type R′.the-laws 𝓤 H A W .typed (z .0) _ is₂ .0)) $
-        assigns ! (agg ! (and-then ! (load ! (from ! (stop !)) (look ! 15 refl)) (and-then ! (load ! (from ! (stop !)) (look ! 3 refl)) (no-more !)))) (from ! (stop !)) (init ! 30 refl (LL.lawful A′.the-type A″.the-laws 𝓤 H A W .typed (answer l₇ ν δ r z) _ made .0)) $
-        returns ! (look ! 30 refl) $ forget ! 0 refl $ forget ! 3 refl $ forget ! 5 refl $ forget ! 7 refl $ forget ! 9 refl $ forget ! 11 refl $ forget ! 13 refl $ forget ! 15 refl $ forget ! 18 refl $ forget ! 20 refl $ forget ! 22 refl $ forget ! 24 refl $ forget ! 26 refl $ forget ! 28 refl $ forget ! 30 refl $
-        move ! (30 ∷ 31 ∷ []) $ free1 ! $ move ! (28 ∷ 29 ∷ []) $ free1 ! $ move ! (26 ∷ 27 ∷ []) $ free1 ! $ move ! (24 ∷ 25 ∷ []) $ free1 ! $ move ! (22 ∷ 23 ∷ []) $ free1 ! $ move ! (20 ∷ 21 ∷ []) $ free1 ! $ move ! (18 ∷ 19 ∷ []) $ free1 ! $ move ! (0 ∷ 17 ∷ []) $ free1 ! $ move ! (14 ∷ 15 ∷ []) $ free1 ! $ move ! (12 ∷ 13 ∷ []) $ free1 ! $ move ! (10 ∷ 11 ∷ []) $ free1 ! $ move ! (8 ∷ 9 ∷ []) $ free1 ! $ move ! (6 ∷ 7 ∷ []) $ free1 ! $ move ! (4 ∷ 5 ∷ []) $ free1 ! $ move ! (2 ∷ 3 ∷ []) $ free1 ! $ free0 ! $
-        by ! (exits l₇ ν δ r z made)))))))))))))))))))))))
+        -- [_7; the lists' tokens; their last values; _16; …; _7 dies; …; room for _0; …]
+        sets ! (of-opd ! (val ! 0 refl)) 3 refl (LL.lawful R.the-type R′.the-laws 𝓤 H A W .typed (z .0) _ is₂ .0) $ sets ! (agg ! (and-then ! (val ! 19 refl) (and-then ! (val ! 3 refl) (no-more !)))) 34 refl (LL.lawful A′.the-type A″.the-laws 𝓤 H A W .typed (answer l₇ ν δ r z) _ made .0) $
+        returns ! (look ! 34 refl) $ move ! (34 ∷ 35 ∷ 32 ∷ 33 ∷ 30 ∷ 31 ∷ 28 ∷ 29 ∷ 26 ∷ 27 ∷ 24 ∷ 25 ∷ 22 ∷ 23 ∷ 0 ∷ 21 ∷ 19 ∷ 20 ∷ 17 ∷ 18 ∷ 15 ∷ 16 ∷ 13 ∷ 14 ∷ 11 ∷ 12 ∷ 9 ∷ 10 ∷ 7 ∷ 8 ∷ 5 ∷ 6 ∷ 3 ∷ 4 ∷ []) $ frees1 ! $ frees1 ! $ frees1 ! $ frees1 ! $ frees1 ! $ frees1 ! $ frees1 ! $ frees1 ! $ frees1 ! $ frees1 ! $ frees1 ! $ frees1 ! $ frees1 ! $ frees1 ! $ frees1 ! $ frees1 ! $ frees1 ! $ free0 ! $
+        by ! (exits l₇ ν δ r z made)))))))))))))))))))))))))
 
-module _ {M : Type 1} (𝓤 : URA M) (H : Heap 𝓤) (A : Atoms 𝓤) (W : Given 𝓤 H A) (mem : Memory → SProp 𝓤) (run : Routine → Fun 𝓤) (𝓣 : Tables 𝓤 H) (known : Triple 𝓤 (𝓣 .C #faces·initialise-record) (Initialise 𝓤 H A mem run)) where
+module _ {M : Type 1} (𝓤 : URA M) (H : Heap 𝓤) (A : Atoms 𝓤) (W : Given 𝓤 H A) (mem : Memory → SProp 𝓤) (run : Routine → Fun 𝓤) (𝓣 : Tables 𝓤 H) (known : Triple 𝓤 (𝓣 .C #slot-records·initialise-record) (Initialise 𝓤 H A mem run)) where
   walks : Walks 𝓤 H A f.ended stayed (WpFn 𝓤 H (𝓣 .C) (𝓣 .Λ) code.function) (f.clauses 𝓤 H A mem run)
   walks = walked 𝓤 H A f.ended stayed (f.clauses 𝓤 H A mem run) (WpFn 𝓤 H (𝓣 .C) (𝓣 .Λ) code.function) (λ κs. (LL.vals R.the-type R′.the-laws, (slice-vals, (slice-vals, (slice-vals, (slice-vals, (slice-vals, tt)))))))
-      (λ κs. (LL.tells R.the-type R′.the-laws, (shr-slice-tells (named 0) (κs .0) u8, (shr-slice-tells (named 1) (κs .1 .0) u64, (shr-slice-tells (named 2) (κs .1 .1 .0) u8, (mut-slice-tells (named 3) (κs .1 .1 .1 .0) u8, (mut-slice-tells (named 4) (κs .1 .1 .1 .1 .0) u8, tt)))))))
+      (λ κs. (LL.tells R.the-type R′.the-laws, (shr-slice-tells (named 0) (κs .0) u8, (shr-slice-tells (named 1) (κs .1 .0) u64, (mut-slice-tells (named 2) (κs .1 .1 .0) u8, (mut-slice-tells (named 3) (κs .1 .1 .1 .0) u8, (mut-slice-tells (named 4) (κs .1 .1 .1 .1 .0) u8, tt)))))))
       (λ κs qs bounds a _ are. via 𝓤 _ (fst∗ 𝓤 _ (emp 𝓤)) (walk 𝓤 H A W mem run κs qs (a .0) (are .0) (a .1 .0) (a .1 .1 .0) (a .1 .1 .1 .0) (a .1 .1 .1 .1 .0) (a .1 .1 .1 .1 .1 .0)
       (are .1 .0 .0 .1 .0) (are .1 .1 .0 .0 .1 .0) (are .1 .1 .1 .0 .0 .1 .0) (are .1 .1 .1 .1 .0 .0 .1 .0) (are .1 .1 .1 .1 .1 .0 .0 .1 .0) (𝓣 .C) (𝓣 .Λ) (fmOf 𝓤 H (W .laws) 𝓣) known))
 
   meets : Meets 𝓤 H A f.signature (WpFn 𝓤 H (𝓣 .C) (𝓣 .Λ) code.function) (f.spec 𝓤 H A mem run)
-  meets = walk-meets 𝓤 H A f.ended stayed W (told-go 𝓤 H A W (f.ended .signature .params) (f.ended .kept)) (f.clauses 𝓤 H A mem run) (WpFn 𝓤 H (𝓣 .C) (𝓣 .Λ) code.function) (WpFn-mono 𝓤 H (W .laws) 𝓣 code.function) walks
+  meets = walk-meets 𝓤 H A f.ended stayed W (promised-go 𝓤 H A W (f.ended .signature .params) (f.ended .kept)) (f.clauses 𝓤 H A mem run) (WpFn 𝓤 H (𝓣 .C) (𝓣 .Λ) code.function) (WpFn-mono 𝓤 H (W .laws) 𝓣 code.function) walks
 
 pub restart-spec : {M : Type 1} → stated.statement M
 unfolding code.routine tablesOf
 restart-spec 𝓤 H 𝓜 𝓖 𝓡 =
     entered 𝓤 H (tripleOf 𝓤 H (𝓖 .A) f.signature (f.spec 𝓤 H (𝓖 .A) (𝓜 .mem) (𝓡 .run)))
-    (tables 𝓤 H 𝓜 𝓡 code.env .C) (tables 𝓤 H 𝓜 𝓡 code.env .Λ) #faces-cases·records·restart code.function (code.unfolded 𝓤 H 𝓜 𝓡)
+    (tables 𝓤 H 𝓜 𝓡 code.env .C) (tables 𝓤 H 𝓜 𝓡 code.env .Λ) #slot-records-cases·records·restart code.function (code.unfolded 𝓤 H 𝓜 𝓡)
     (meets 𝓤 H (𝓖 .A) (givenOf 𝓤 H 𝓜 𝓖) (𝓜 .mem) (𝓡 .run) (tablesOf 𝓤 H 𝓜 (tables 𝓤 H 𝓜 𝓡 code.env))
-    (cited 𝓤 H (Initialise 𝓤 H (𝓖 .A) (𝓜 .mem) (𝓡 .run)) 𝓜 𝓡 code.env #faces·initialise-record g-def.routine code.calls-faces·initialise-record (g-thm.met 𝓤 H 𝓜 𝓖 𝓡)))
+    (cited 𝓤 H (Initialise 𝓤 H (𝓖 .A) (𝓜 .mem) (𝓡 .run)) 𝓜 𝓡 code.env #slot-records·initialise-record g-def.routine code.calls-slot-records·initialise-record (g-thm.met 𝓤 H 𝓜 𝓖 𝓡)))

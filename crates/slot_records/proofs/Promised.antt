@@ -11,11 +11,11 @@ use denote.Triple.End.{Kepts}
 use denote.Triple.Walked.{Stays, AllGo}
 
 module _ {n : ℕ} where
-  abbrev pub told : (ss : List (Slot n)) (ks : Kepts ss) → Stays ss ks
-  told [] ks = tt
-  told (s ∷ ss) ks = (record { fit = λ κs x f. Unit {0}; has = λ κs x f vs. left (s .row κs .exit (ks .0)) x f }, told ss (ks .1))
+  abbrev pub promised : (ss : List (Slot n)) (ks : Kepts ss) → Stays ss ks
+  promised [] ks = tt
+  promised (s ∷ ss) ks = (record { fit = λ κs x f. Unit {0}; has = λ κs x f vs. left (s .row κs .exit (ks .0)) x f }, promised ss (ks .1))
 
   module _ {M : Type 1} (𝓤 : URA M) (H : Heap 𝓤) (A : Atoms 𝓤) (W : Given 𝓤 H A) where
-    pub told-go : (ss : List (Slot n)) (ks : Kepts ss) → AllGo 𝓤 H A W n ss ks (told ss ks)
-    told-go [] ks = tt
-    told-go (s ∷ ss) ks = (λ κs x f vs fits. W .laws .⇛-intro (sem 𝓤 H A (left (s .row κs .exit (ks .0)) x f)), told-go ss (ks .1))
+    pub promised-go : (ss : List (Slot n)) (ks : Kepts ss) → AllGo 𝓤 H A W n ss ks (promised ss ks)
+    promised-go [] ks = tt
+    promised-go (s ∷ ss) ks = (λ κs x f vs fits. W .laws .⇛-intro (sem 𝓤 H A (left (s .row κs .exit (ks .0)) x f)), promised-go ss (ks .1))
