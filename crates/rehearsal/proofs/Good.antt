@@ -7,12 +7,11 @@ use native.Mathlib.Nat.{add-zero}
 use native.Mathlib.Omega.{arith}
 use borrow.Author.Tests.{ne-eqb, le-leb, lt-leb, leb-true}
 use lib.Dec.{eqb, leb}
-use lib.ListN.{length, take, drop, length-take}
-use Rattle.numbers.specs.Numbers.{Bytes}
-use Rattle.numbers.proofs.Laws.{number-below, part-bytes}
-use Rattle.range.proofs.Laws.{both}
-use Rattle.message.specs.Reading.{numberAt}
-use Rattle.rehearsal.specs.Files.{slotCount, callsAt, callIn, roomIn, messageLength, headSize, sizeAt, goodCall, goodCalls, mostCalls, goodFile}
+use lib.ListN.{length}
+use Rattle.numbers.specs.Numbers.{Bytes, numberAt}
+use Rattle.numbers.proofs.Laws.{number-at-below}
+use Rattle.basics.proofs.Bools.{both}
+use Rattle.rehearsal.specs.Files.{slotCount, callsAt, callIn, roomAt, messageLength, headSize, sizeAt, goodCall, goodCalls, mostCalls, goodFile}
 
 -- ---- the size of a call
 
@@ -37,6 +36,10 @@ module _ (s : List ℕ) (at : ℕ) where
   size-other e =
       ap (λ (t : Bool). headSize (callIn s at) + cond t (messageLength s at) 0) (ne-eqb (callIn s at) 5 e) ∙ add-zero (headSize (callIn s at))
 
+  pub size-head : headSize (callIn s at) ≤ sizeAt s at
+  unfolding sizeAt
+  size-head = omega arith
+
   -- The next call is further on.
   pub size-some : 3 ≤ sizeAt s at
   unfolding sizeAt
@@ -44,7 +47,7 @@ module _ (s : List ℕ) (at : ℕ) where
 
 -- A number of two bytes.
 pub number-small : (s : List ℕ) (at : ℕ) → Bytes s → numberAt s at 2 < 65536
-number-small s at h = number-below (take 2 (drop at s)) 2 (part-bytes s at 2 h) (omega (arith, length-take 2 (drop at s)))
+number-small s at h = number-at-below s at 2 h
 
 -- ---- a good call
 
@@ -53,7 +56,7 @@ pub record Called (s : List ℕ) (at : ℕ) : Type 0 where
   pub known : callIn s at ≤ 5
   pub head : at + headSize (callIn s at) ≤ length s
   pub whole : at + sizeAt s at ≤ length s
-  pub room : (callIn s at ≡ 4 → ⊥) → roomIn s at ≤ 2048
+  pub room : roomAt s at ≤ 2048
 
 pub good-called : (s : List ℕ) (at : ℕ) → goodCall s at ≡ true → Called s at
 unfolding goodCall
@@ -68,12 +71,12 @@ good-called s at e =
       known = leb-true call 5 known;
       head = leb-true (at + headSize call) (length s) head;
       whole = leb-true (at + sizeAt s at) (length s) whole;
-      room = λ n. leb-true (roomIn s at) 2048 (rw (ne-eqb call 4 n) at room);
+      room = leb-true (roomAt s at) 2048 room;
     }
 
 -- Of a call that is not cut short only the room is left to test.
 pub room-left : (s : List ℕ) (at : ℕ) → 1 ≤ callIn s at → callIn s at ≤ 5 → at + headSize (callIn s at) ≤ length s
-    → at + sizeAt s at ≤ length s → goodCall s at ≡ (eqb (callIn s at) 4 || leb (roomIn s at) 2048)
+    → at + sizeAt s at ≤ length s → goodCall s at ≡ leb (roomAt s at) 2048
 unfolding goodCall
 room-left s at some known head whole =
     let call = callIn s at in

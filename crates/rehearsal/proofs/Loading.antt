@@ -4,8 +4,8 @@ use mathlib.Core.Path.{_≡_, refl, ap, _∙_}
 use mathlib.Core.List.{List, _++_}
 use native.Mathlib.Omega.{arith}
 use lib.ListN.{length, drop, set, length-set}
-use Rattle.node_rules.specs.Boards.{each}
-use Rattle.node_rules.proofs.Each.{each-none, each-more, each-all}
+use Rattle.basics.specs.Lists.{each}
+use Rattle.basics.proofs.Each.{each-none, each-more, each-all}
 
 pub record Loaded (f : ℕ → ℕ) (start : List ℕ) (i : ℕ) (out : List ℕ) : Type 0 where
   pub inside : i ≤ length start
@@ -20,7 +20,7 @@ module _ {f : ℕ → ℕ} {start : List ℕ} {i : ℕ} {out : List ℕ} (l : Lo
   loaded-next {x} h e = record {
     inside = omega arith;
     size = length-set out i x ∙ l .size;
-    numbers = each-more f i start out (l .numbers) h x e;
+    numbers = each-more 0 f i start out (l .numbers) h x e;
   }
 
   pub loaded-all : (n : ℕ) → length start ≡ n → n ≤ i → out ≡ each n f

@@ -11,13 +11,15 @@ use lib.ListN.{length, take}
 use Rattle.text.specs.declared.Place.{Place}
 use Rattle.text.specs.Text.{filled, endOf}
 use Rattle.text.proofs.Laws.{Remains, remains-next, remains-none}
-use Rattle.node_rules.specs.Boards.{Board}
+use Rattle.node_rules.specs.Boards.{Slots, Board}
 use Rattle.node_rules.specs.Sending.{allBytes}
 use Rattle.node_rules.specs.Calls.{Outcome}
 use Rattle.node.specs.declared.Answer.{Answer}
-use Rattle.node.specs.Answers.{boardOf, answerOf}
+use Rattle.node.specs.Lent.{boardOf}
+use Rattle.node.specs.Answers.{answerOf}
 use Rattle.rehearsal.specs.Files.{goodCall, goodCalls, mostCalls, sizeAt, outcomeAt}
 use Rattle.rehearsal.specs.Lines.{lineOf, lineFor, linesFrom}
+use Rattle.rehearsal.specs.Calls.{CallLeft}
 use Rattle.rehearsal.proofs.Good.{Called, good-called, calls-none, calls-good}
 
 -- ---- the lines of the calls from a place on
@@ -34,9 +36,8 @@ module _ (b : Board) (s : List ℕ) (at : ℕ) where
   lines-next n k h = rw (lt-leb (length s) at h)
 
 -- The line of a call's answer, with the bytes and the marks that the call leaves.
-line-for : (k : ℕ) (o : Outcome) {a : Answer} {bytes roles events statuses marks : List ℕ}
-    → a ≡ answerOf o → bytes ≡ allBytes (o .sent) → boardOf (a .node) roles events statuses marks ≡ o .next
-    → lineOf k (a .refusal) bytes (a .matches) (a .node .state) marks ≡ lineFor k o
+line-for : (k : ℕ) (o : Outcome) {a : Answer} {bytes : List ℕ} {slots : Slots} → a ≡ answerOf o → bytes ≡ allBytes (o .sent) → boardOf (a .node) slots ≡ o .next
+    → lineOf k (a .refusal) bytes (a .matches) (a .node .state) (slots .marks) ≡ lineFor k o
 line-for k o e f g i = lineOf k (e i .refusal) (f i) (e i .matches) (g i .node .state) (g i .slots .marks)
 
 -- A part from the start on.
@@ -90,19 +91,18 @@ module _ {file : List ℕ} {b₀ : Board} {at₀ : ℕ} {first : Place} {text₀
       ∙ λ i. sym e i ++ linesFrom (mostCalls - (k + 1)) (sym (add-one k) i) (sym f i) file (at + sizeAt file at)
 
   -- The call's line is put in, and the next call stands after it.
-  pub running-next : {a : Answer} {bytes roles events statuses marks : List ℕ} {next′ : Place} {text′ : List ℕ} {size : ℕ} → at < length file
-      → a ≡ answerOf (outcomeAt b file at) → boardOf (a .node) roles events statuses marks ≡ outcomeAt b file at .next
-      → bytes ≡ allBytes (outcomeAt b file at .sent)
-      → next′ ≡ endOf next (lineOf k (a .refusal) bytes (a .matches) (a .node .state) marks) text
-      → text′ ≡ filled next (lineOf k (a .refusal) bytes (a .matches) (a .node .state) marks) text
-      → size ≡ sizeAt file at → Running file b₀ at₀ first text₀ (k + 1) (at + size) (boardOf (a .node) roles events statuses marks) next′ text′
-  running-next {a} {bytes} {marks = marks} h e f g e₁ f₁ z =
-      let lines = lines-left h (line-for k (outcomeAt b file at) e g f) f in
+  pub running-next : {a : Answer} {slots : Slots} {out bytes : List ℕ} {next′ : Place} {text′ : List ℕ} {size : ℕ} → at < length file
+      → CallLeft (outcomeAt b file at) a slots out → bytes ≡ take (a .bytes) out
+      → next′ ≡ endOf next (lineOf k (a .refusal) bytes (a .matches) (a .node .state) (slots .marks)) text
+      → text′ ≡ filled next (lineOf k (a .refusal) bytes (a .matches) (a .node .state) (slots .marks)) text
+      → size ≡ sizeAt file at → Running file b₀ at₀ first text₀ (k + 1) (at + size) (boardOf (a .node) slots) next′ text′
+  running-next {a} {slots} {bytes = bytes} h l w e₁ f₁ z =
+      let lines = lines-left h (line-for k (outcomeAt b file at) (l .answered) (w ∙ l .bytes) (l .board)) (l .board) in
       rw z (record {
         inside = running-called h .whole;
         count = omega (arith, running-more h);
         good = calls h .1;
-        rest = remains-next (lineOf k (a .refusal) bytes (a .matches) (a .node .state) marks) (rw lines at (r .rest)) e₁ f₁;
+        rest = remains-next (lineOf k (a .refusal) bytes (a .matches) (a .node .state) (slots .marks)) (rw lines at (r .rest)) e₁ f₁;
       })
 
   pub running-end : length file ≤ at → (next ≡ endOf first (linesFrom mostCalls 0 b₀ file at₀) text₀) × (text ≡ filled first (linesFrom mostCalls 0 b₀ file at₀) text₀)

@@ -9,14 +9,15 @@ use lib.ListN.{length, take, drop, replicate, length-append, length-replicate, g
 use lib.Seq.{take-suc, take-at, length-take-le}
 use Rattle.range.specs.declared.Block.{Block}
 use Rattle.range.specs.Range.{blockOf}
-use Rattle.message.specs.Reading.{numberAt}
+use Rattle.numbers.specs.Numbers.{numberAt}
 use Rattle.text.specs.declared.Place.{Place}
 use Rattle.text.specs.Text.{filledAt, endAt, filled, endOf, badFile}
-use Rattle.node_rules.specs.Boards.{Board, notInitialized, unadvertised, each}
-use Rattle.node_rules.proofs.Each.{each-length}
-use Rattle.node.specs.Answers.{boardOf}
-use Rattle.rehearsal.specs.Files.{slotCount, slotAt, roleIn, eventIn, statusIn, boardIn, callsAt, goodFile, mostCalls}
-use Rattle.rehearsal.specs.Lines.{linesFrom, textOf}
+use Rattle.node_rules.specs.Boards.{Board, notInitialized, unadvertised}
+use Rattle.basics.specs.Lists.{each}
+use Rattle.basics.proofs.Each.{each-length}
+use Rattle.node.specs.Lent.{slotsOf, boardOf}
+use Rattle.rehearsal.specs.Files.{slotCount, slotAt, roleIn, eventIn, statusIn, boardIn, goodFile}
+use Rattle.rehearsal.specs.Lines.{callLines, textOf}
 use Rattle.rehearsal.proofs.Good.{Good, good-file}
 use Rattle.rehearsal.proofs.Running.{first-part}
 
@@ -71,10 +72,7 @@ Loads s roles events statuses =
 abbrev started : ℕ → ℕ → Block → List ℕ → List ℕ → List ℕ → Board
 started n id automatic roles events statuses =
     boardOf (record { id = id; state = notInitialized; automatic = automatic })
-    (part n (whole n roles))
-    (part n (whole n events))
-    (part n (whole n statuses))
-    (part n cells)
+    (slotsOf (part n (whole n roles)) (part n (whole n events)) (part n (whole n statuses)) (part n cells))
 
 started-in : (s : List ℕ) {id : ℕ} {automatic : Block} {roles events statuses : List ℕ} → slotCount s ≤ 100
     → id ≡ numberAt s 0 8 → automatic ≡ blockOf (numberAt s 8 8)
@@ -83,10 +81,7 @@ started-in : (s : List ℕ) {id : ℕ} {automatic : Block} {roles events statuse
 started-in s {roles = roles} {events = events} {statuses = statuses} h i a l t =
     let n = slotCount s in
     boardOf (record { id = i t; state = notInitialized; automatic = a t })
-    (loaded-part (roleIn s) n roles h (l .0) t)
-    (loaded-part (eventIn s) n events h (l .1 .0) t)
-    (loaded-part (statusIn s) n statuses h (l .1 .1) t)
-    (clear-part n h t)
+    (slotsOf (loaded-part (roleIn s) n roles h (l .0) t) (loaded-part (eventIn s) n events h (l .1 .0) t) (loaded-part (statusIn s) n statuses h (l .1 .1) t) (clear-part n h t))
 
 -- ---- the text of a file
 
@@ -112,9 +107,9 @@ module _ (s : List ℕ) (skip : ℕ) (text : List ℕ) {end : Place} {text′ : 
 
   pub text-good : {t : Bool} {id : ℕ} {automatic : Block} {roles events statuses : List ℕ} → t ≡ goodFile s → not t ≡ false
       → id ≡ numberAt s 0 8 → automatic ≡ blockOf (numberAt s 8 8) → Loads s roles events statuses
-      → Puts skip (linesFrom mostCalls 0 (started (slotCount s) id automatic roles events statuses) s (callsAt s)) text end text′
+      → Puts skip (callLines (started (slotCount s) id automatic roles events statuses) s) text end text′
       → Rehearsed s skip text end text′
   unfolding textOf
   text-good {t} e h i a l p =
       let board = started-in s (passed-file s e h .count) i a l in
-      text-put (rw (sym e ∙ not-false t h) (ap (λ (b : Board). linesFrom mostCalls 0 b s (callsAt s)) board)) p
+      text-put (rw (sym e ∙ not-false t h) (ap (λ (b : Board). callLines b s) board)) p

@@ -1,13 +1,16 @@
 -- A board file: a board, and the calls that it is put through. Numbers stand high byte first (docs/BOARD-FILES.md).
-use Prim.Native.Nat.{ℕ, zero, suc, _+_, _*_}
+use Prim.Native.Nat.{ℕ, zero, suc, _+_, _-_, _*_}
 use mathlib.Core.Bool.{Bool, cond, _&&_, _||_}
 use mathlib.Core.List.{List}
 use lib.Dec.{eqb, leb}
 use lib.ListN.{length, getD, take, drop}
 use Rattle.range.specs.Range.{blockOf}
-use Rattle.message.specs.Reading.{numberAt}
-use Rattle.node_rules.specs.Boards.{Board, notInitialized, unadvertised, each}
-use Rattle.node_rules.specs.Calls.{Outcome, initialise, announce, produce, setStatus, receive}
+use Rattle.numbers.specs.Numbers.{numberAt}
+use Rattle.node_rules.specs.declared.Call.{Call}
+use Rattle.node_rules.specs.declared.Call.the-variants.{Initialise, Announce, Produce, SetStatus, Receive}
+use Rattle.node_rules.specs.Boards.{Board, notInitialized, unadvertised}
+use Rattle.basics.specs.Lists.{each}
+use Rattle.node_rules.specs.Calls.{Outcome, outcome}
 
 -- ---- the board: Node ID 8, range number of the automatic block 8, slot count n 1, then n slots of role 1, Event ID 8, status 1
 
@@ -47,10 +50,6 @@ callsAt s = slotAt (slotCount s)
 abbrev pub callIn : List ℕ → ℕ → ℕ
 callIn s at = getD s at 0
 
--- Room is the length of the output lent.
-abbrev pub roomIn : List ℕ → ℕ → ℕ
-roomIn s at = numberAt s (at + 1) 2
-
 abbrev pub messageLength : List ℕ → ℕ → ℕ
 messageLength s at = numberAt s (at + 3) 2
 
@@ -61,13 +60,23 @@ headSize call = cond (eqb call 1 || eqb call 4) 3 (cond (eqb call 5) 5 4)
 unfoldable pub sizeAt : List ℕ → ℕ → ℕ
 sizeAt s at = headSize (callIn s at) + cond (eqb (callIn s at) 5) (messageLength s at) 0
 
+unfoldable pub callAt : List ℕ → ℕ → Call
+callAt s at =
+    cond (eqb (callIn s at) 1) Initialise
+    (cond (eqb (callIn s at) 2) (Announce (getD s (at + 3) 0))
+    (cond (eqb (callIn s at) 3) (Produce (getD s (at + 3) 0))
+    (cond (eqb (callIn s at) 4) (SetStatus (getD s (at + 1) 0) (getD s (at + 2) 0)) Receive)))
+
+-- Room is the length of the output lent. To set a status is lent none.
+unfoldable pub roomAt : List ℕ → ℕ → ℕ
+roomAt s at = cond (eqb (callIn s at) 4) 0 (numberAt s (at + 1) 2)
+
+-- What follows a call's head: the message to be received, and nothing for the other calls.
+abbrev pub messageAt : List ℕ → ℕ → List ℕ
+messageAt s at = take (sizeAt s at - headSize (callIn s at)) (drop (at + headSize (callIn s at)) s)
+
 unfoldable pub outcomeAt : Board → List ℕ → ℕ → Outcome
-outcomeAt b s at =
-    cond (eqb (callIn s at) 1) (initialise b (roomIn s at))
-    (cond (eqb (callIn s at) 2) (announce b (getD s (at + 3) 0) (roomIn s at))
-    (cond (eqb (callIn s at) 3) (produce b (getD s (at + 3) 0) (roomIn s at))
-    (cond (eqb (callIn s at) 4) (setStatus b (getD s (at + 1) 0) (getD s (at + 2) 0))
-    (receive b (take (messageLength s at) (drop (at + 5) s)) (roomIn s at)))))
+outcomeAt b s at = outcome b (callAt s at) (messageAt s at) (roomAt s at)
 
 -- ---- good files
 
@@ -76,7 +85,7 @@ unfoldable pub goodCall : List ℕ → ℕ → Bool
 goodCall s at =
     (leb 1 (callIn s at) && leb (callIn s at) 5)
     && (leb (at + headSize (callIn s at)) (length s)
-    && (leb (at + sizeAt s at) (length s) && (eqb (callIn s at) 4 || leb (roomIn s at) 2048)))
+    && (leb (at + sizeAt s at) (length s) && leb (roomAt s at) 2048))
 
 -- At most so many calls, to the end of the file.
 unfoldable pub goodCalls : ℕ → List ℕ → ℕ → Bool

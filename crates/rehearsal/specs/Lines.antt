@@ -5,7 +5,7 @@ use mathlib.Core.List.{List, [], _∷_, _++_}
 use lib.Dec.{leb}
 use lib.ListN.{length}
 use Rattle.numbers.specs.Numbers.{bytesOf}
-use Rattle.sets.specs.Sets.{setOf}
+use Rattle.basics.specs.Sets.{setOf}
 use Rattle.text.specs.Text.{decimal, hexOf, space, newLine, badFile}
 use Rattle.node_rules.specs.Boards.{Board}
 use Rattle.node_rules.specs.Sending.{allBytes}
@@ -42,5 +42,9 @@ linesFrom zero k b s at = []
 linesFrom (suc n) k b s at =
     cond (leb (length s) at) [] (lineFor k (outcomeAt b s at) ++ linesFrom n (suc k) (outcomeAt b s at .next) s (at + sizeAt s at))
 
+-- The lines of a file's calls on a board.
+abbrev pub callLines : Board → List ℕ → List ℕ
+callLines b s = linesFrom mostCalls 0 b s (callsAt s)
+
 unfoldable pub textOf : List ℕ → List ℕ
-textOf s = cond (goodFile s) (linesFrom mostCalls 0 (boardIn s) s (callsAt s)) badFile
+textOf s = cond (goodFile s) (callLines (boardIn s) s) badFile

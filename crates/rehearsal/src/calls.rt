@@ -2,12 +2,12 @@
 ghost use mathlib.Core.Path.{_≡_};
 ghost use mathlib.Core.Bool.{true};
 ghost use Prim.Native.Nat.{_≤_, _<_};
-ghost use lib.ListN.{length, take};
+ghost use lib.ListN.{length};
 ghost use Rattle.text.specs.Text.{filled, endOf};
-ghost use Rattle.node_rules.specs.Sending.{allBytes};
-ghost use Rattle.node.specs.Answers.{boardOf, answerOf};
+ghost use Rattle.node.specs.Lent.{boardOf, entered, left};
 ghost use Rattle.rehearsal.specs.Files.{goodCall, goodCalls, outcomeAt, mostCalls, callsAt, slotCount};
-ghost use Rattle.rehearsal.specs.Lines.{linesFrom};
+ghost use Rattle.rehearsal.specs.Lines.{callLines};
+ghost use Rattle.rehearsal.specs.Calls.{CallLeft};
 use crate::files;
 use crate::lines;
 use node::Answer;
@@ -28,8 +28,8 @@ pub(crate) fn run(
     requires { ⌜ (length (now file) ≤ 65536) × (slotCount (now file) ≤ 100) × (callsAt (now file) ≤ length (now file)) ⌝ }
     requires { ⌜ goodCalls mostCalls (now file) (callsAt (now file)) ≡ true ⌝ }
     requires { ⌜ first .at ≤ length (now text) ⌝ }
-    ensures { λ r. ⌜ r ≡ endOf first (linesFrom mostCalls 0 (boardOf node (now (roles .entry)) (now (events .entry)) (now (statuses .entry)) (now (marks .entry))) (now (file .entry)) (callsAt (now (file .entry)))) (now (text .entry)) ⌝ }
-    ensures { λ _. ⌜ now (text .exit) ≡ filled first (linesFrom mostCalls 0 (boardOf node (now (roles .entry)) (now (events .entry)) (now (statuses .entry)) (now (marks .entry))) (now (file .entry)) (callsAt (now (file .entry)))) (now (text .entry)) ⌝ }
+    ensures { λ r. ⌜ r ≡ endOf first (callLines (boardOf node (entered roles events statuses marks)) (now (file .entry))) (now (text .entry)) ⌝ }
+    ensures { λ _. ⌜ now (text .exit) ≡ filled first (callLines (boardOf node (entered roles events statuses marks)) (now (file .entry))) (now (text .entry)) ⌝ }
 {
     let mut current = node;
     let mut next = first;
@@ -68,53 +68,19 @@ fn call(
     out: &mut [u8],
 ) -> Answer
     requires { ⌜ (at < length (now file)) × (goodCall (now file) at ≡ true) × (length (now out) ≡ 2048) ⌝ }
-    ensures { λ a. ⌜ a ≡ answerOf (outcomeAt (boardOf node (now (roles .entry)) (now (events .entry)) (now (statuses .entry)) (now (marks .entry))) (now (file .entry)) at) ⌝ }
-    ensures { λ a. ⌜ boardOf (a .node) (now (roles .entry)) (now (events .entry)) (now (statuses .exit)) (now (marks .exit)) ≡ outcomeAt (boardOf node (now (roles .entry)) (now (events .entry)) (now (statuses .entry)) (now (marks .entry))) (now (file .entry)) at .next ⌝ }
-    ensures { λ a. ⌜ (a .bytes ≤ 2048) × (take (a .bytes) (now (out .exit)) ≡ allBytes (outcomeAt (boardOf node (now (roles .entry)) (now (events .entry)) (now (statuses .entry)) (now (marks .entry))) (now (file .entry)) at .sent)) ⌝ }
+    ensures { λ a. ⌜ CallLeft (outcomeAt (boardOf node (entered roles events statuses marks)) (now (file .entry)) at) a (left roles events statuses marks) (now (out .exit)) ⌝ }
 {
-    let number = file[at];
-    if number == 4 {
-        let slot = file[at + 1] as usize;
-        let status = file[at + 2];
-        return node::set_status(node, slot, status, roles, events, statuses, marks);
-    }
-    let room = files::number(file, at + 1, 2) as usize;
-    if number == 1 {
-        return node::initialise(node, roles, events, statuses, marks, &mut out[0..room]);
-    }
-    if number == 5 {
-        let from = at + 5;
-        let end = at + files::size_at(file, at);
-        return node::receive(
-            node,
-            &file[from..end],
-            roles,
-            events,
-            statuses,
-            marks,
-            &mut out[0..room],
-        );
-    }
-    let slot = file[at + 3] as usize;
-    if number == 2 {
-        node::announce(
-            node,
-            slot,
-            roles,
-            events,
-            statuses,
-            marks,
-            &mut out[0..room],
-        )
-    } else {
-        node::produce(
-            node,
-            slot,
-            roles,
-            events,
-            statuses,
-            marks,
-            &mut out[0..room],
-        )
-    }
+    let from = at + files::head_size(file[at]);
+    let end = at + files::size_at(file, at);
+    let room = files::room_at(file, at);
+    node::perform(
+        node,
+        files::call_at(file, at),
+        &file[from..end],
+        roles,
+        events,
+        statuses,
+        marks,
+        &mut out[0..room],
+    )
 }

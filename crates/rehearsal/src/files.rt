@@ -3,8 +3,8 @@ ghost use mathlib.Core.Path.{_≡_};
 ghost use mathlib.Core.Bool.{true};
 ghost use Prim.Native.Nat.{_+_, _≤_, _<_};
 ghost use lib.ListN.{length};
-ghost use Rattle.message.specs.Reading.{numberAt};
-ghost use Rattle.rehearsal.specs.Files.{callIn, headSize, sizeAt, goodCall, goodCalls, mostCalls, goodFile};
+ghost use Rattle.rehearsal.specs.Files.{callIn, headSize, sizeAt, callAt, roomAt, goodCall, goodCalls, mostCalls, goodFile};
+use node_rules::Call;
 
 pub(crate) fn good(file: &[u8]) -> bool
     ensures { λ yes. ⌜ yes ≡ goodFile (now (file .entry)) ⌝ }
@@ -63,13 +63,10 @@ fn good_call(file: &[u8], at: usize) -> bool
     if file.len() - at < size_at(file, at) {
         return false;
     }
-    if call == 4 {
-        return true;
-    }
-    number(file, at + 1, 2) <= 2048
+    room_at(file, at) <= 2048
 }
 
-fn head_size(call: u8) -> usize
+pub(crate) fn head_size(call: u8) -> usize
     ensures { λ n. ⌜ n ≡ headSize call ⌝ }
 {
     match call {
@@ -87,15 +84,39 @@ pub(crate) fn size_at(file: &[u8], at: usize) -> usize
 {
     let call = file[at];
     if call == 5 {
-        return 5 + number(file, at + 3, 2) as usize;
+        return 5 + numbers::read_at(file, at + 3, 2) as usize;
     }
     head_size(call)
 }
 
-// The number in so many bytes from a place on.
-pub(crate) fn number(file: &[u8], at: usize, width: usize) -> u64
-    requires { ⌜ (width ≤ 8) × (at + width ≤ length (now file)) ⌝ }
-    ensures { λ n. ⌜ n ≡ numberAt (now (file .entry)) at width ⌝ }
+// The room that the call at a place has.
+pub(crate) fn room_at(file: &[u8], at: usize) -> usize
+    requires { ⌜ (at < length (now file)) × (at + 3 ≤ length (now file)) ⌝ }
+    ensures { λ n. ⌜ n ≡ roomAt (now (file .entry)) at ⌝ }
 {
-    numbers::read(&file[at..at + width])
+    if file[at] == 4 {
+        return 0;
+    }
+    numbers::read_at(file, at + 1, 2) as usize
+}
+
+// The call at a place, in numbers.
+pub(crate) fn call_at(file: &[u8], at: usize) -> Call
+    requires { ⌜ (at < length (now file)) × (at + headSize (callIn (now file) at) ≤ length (now file)) ⌝ }
+    ensures { λ c. ⌜ c ≡ callAt (now (file .entry)) at ⌝ }
+{
+    let call = file[at];
+    if call == 1 {
+        return Call::Initialise;
+    }
+    if call == 2 {
+        return Call::Announce(file[at + 3] as usize);
+    }
+    if call == 3 {
+        return Call::Produce(file[at + 3] as usize);
+    }
+    if call == 4 {
+        return Call::SetStatus(file[at + 1] as usize, file[at + 2]);
+    }
+    Call::Receive
 }

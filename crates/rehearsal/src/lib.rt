@@ -34,9 +34,9 @@ pub fn rehearse(file: &[u8], skip: usize, text: &mut [u8]) -> usize
         &mut statuses[0..count],
     );
     let node = Node {
-        id: files::number(file, 0, 8),
+        id: numbers::read_at(file, 0, 8),
         state: 0,
-        automatic: range::block_of(files::number(file, 8, 8)),
+        automatic: range::block_of(numbers::read_at(file, 8, 8)),
     };
     let end = calls::run(
         node,

@@ -2,9 +2,8 @@
 ghost use mathlib.Core.Path.{_≡_};
 ghost use Prim.Native.Nat.{_≤_};
 ghost use lib.ListN.{length};
-ghost use Rattle.node_rules.specs.Boards.{each};
+ghost use Rattle.basics.specs.Lists.{each};
 ghost use Rattle.rehearsal.specs.Files.{slotAt, roleIn, eventIn, statusIn};
-use crate::files;
 
 // Fills the lists with the file's slots, as many as the lists have.
 pub(crate) fn load(file: &[u8], roles: &mut [u8], events: &mut [u64], statuses: &mut [u8])
@@ -18,7 +17,7 @@ pub(crate) fn load(file: &[u8], roles: &mut [u8], events: &mut [u64], statuses: 
     while i < roles.len() {
         let at = 17 + i * 10;
         roles[i] = file[at];
-        events[i] = files::number(file, at + 1, 8);
+        events[i] = numbers::read_at(file, at + 1, 8);
         statuses[i] = file[at + 9];
         i += 1;
     }

@@ -59,11 +59,11 @@ part-statuses-end c = passed-file (c .before .before .before .before .before .be
 load-requires : tie.Need-load-requires
 load-requires c κs = ((refl, refl), slots-fit (c .before .before .before .before .before .before .before .before .args .file .now) (passed-file (c .before .before .before .before .before .before .before .before .args .file .now) (c .before .before .before .before .before .good2 .ensures) (c .before .before .before .before .if1 .left)))
 
-number-requires : tie.Need-number-requires
-number-requires c κs = omega (arith, passed-file (c .before .before .before .before .before .before .before .before .before .before .before .before .args .file .now) (c .before .before .before .before .before .before .before .before .before .good2 .ensures) (c .before .before .before .before .before .before .before .before .if1 .left) .board)
+read-at-requires : tie.Need-read-at-requires
+read-at-requires c κs = search needs
 
-number-requires-2 : tie.Need-number-requires-2
-number-requires-2 c κs = omega (arith, passed-file (c .before .before .before .before .before .before .before .before .before .before .before .before .before .args .file .now) (c .before .before .before .before .before .before .before .before .before .before .good2 .ensures) (c .before .before .before .before .before .before .before .before .before .if1 .left) .board)
+read-at-requires-2 : tie.Need-read-at-requires-2
+read-at-requires-2 c κs = search needs
 
 block-of-requires : tie.Need-block-of-requires
 block-of-requires c κs = search needs
@@ -121,7 +121,7 @@ same-length-2 c = search needs
 returns-2 : tie.Need-returns-2
 returns-2 c =
     let a = c .before .before .before .before .before .before .before .before .before .before .before .before .before .before .before .before .before .before .before .before .before .before .before .before .before .before .before .args in
-    text-good (a .file .now) (a .skip) (a .text .now) (c .before .before .before .before .before .before .before .before .before .before .before .before .before .before .before .before .before .before .before .before .before .before .before .before .good2 .ensures) (c .before .before .before .before .before .before .before .before .before .before .before .before .before .before .before .before .before .before .before .before .before .before .before .if1 .left) (c .before .before .before .before .before .before .before .before .before .before .before .before .before .before .number .ensures) (c .before .before .before .before .before .before .before .before .before .before .before .before .block-of .ensures ∙ ap blockOf (c .before .before .before .before .before .before .before .before .before .before .before .before .before .number2 .ensures)) (c .before .before .before .before .before .before .before .before .before .before .before .before .before .before .before .before .before .before .load .ensures) (c .before .before .before .before .run .ensures)
+    text-good (a .file .now) (a .skip) (a .text .now) (c .before .before .before .before .before .before .before .before .before .before .before .before .before .before .before .before .before .before .before .before .before .before .before .before .good2 .ensures) (c .before .before .before .before .before .before .before .before .before .before .before .before .before .before .before .before .before .before .before .before .before .before .before .if1 .left) (c .before .before .before .before .before .before .before .before .before .before .before .before .before .before .read-at .ensures) (c .before .before .before .before .before .before .before .before .before .before .before .before .block-of .ensures ∙ ap blockOf (c .before .before .before .before .before .before .before .before .before .before .before .before .before .read-at2 .ensures)) (c .before .before .before .before .before .before .before .before .before .before .before .before .before .before .before .before .before .before .load .ensures) (c .before .before .before .before .run .ensures)
 
 pub rehearse-spec : {M : Type 1} → statement M
 rehearse-spec =
@@ -144,8 +144,8 @@ rehearse-spec =
     part-statuses-start
     part-statuses-end
     load-requires
-    number-requires
-    number-requires-2
+    read-at-requires
+    read-at-requires-2
     block-of-requires
     sub-run
     part-run-start

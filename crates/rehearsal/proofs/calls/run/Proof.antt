@@ -5,7 +5,7 @@ use native.Mathlib.Omega.{arith}
 use borrow.Author.Needs.{needs}
 use lib.ListN.{length}
 use Rattle.text.proofs.Laws.{remains-length}
-use Rattle.node.specs.Answers.{boardOf}
+use Rattle.node.specs.Lent.{slotsOf, boardOf}
 use Rattle.rehearsal.specs.Files.{callsAt}
 use Rattle.rehearsal.proofs.Good.{size-some}
 use Rattle.rehearsal.proofs.Running.{first-part, Running, running-start, running-more, running-good, running-called, running-next, running-end}
@@ -14,7 +14,7 @@ use Rattle.rehearsal.proofs.calls.run.Tie as tie
 
 abbrev Inv-loop : tie.InvT-loop
 Inv-loop file roles events statuses₀ marks₀ text₀ current₀ next₀ k₀ at₀ out₀ statuses marks text current next k at out =
-    Running file (boardOf current₀ roles events statuses₀ marks₀) at₀ next₀ text₀ k at (boardOf current roles events statuses marks) next text
+    Running file (boardOf current₀ (slotsOf roles events statuses₀ marks₀)) at₀ next₀ text₀ k at (boardOf current (slotsOf roles events statuses marks)) next text
     × (length out ≡ 2048)
     × (length statuses ≡ length statuses₀)
     × (length marks ≡ length marks₀)
@@ -37,7 +37,7 @@ add-at c = omega arith
 loop-holds : tie.Need-loop-holds Inv-loop μ-loop
 loop-holds c =
     let a = c .before .before .before .before .before .before .before .args in (
-      running-start (a .file .now) (boardOf (a .node) (a .roles .now) (a .events .now) (a .statuses .now) (a .marks .now)) (callsAt (a .file .now)) (a .first) (a .text .now) (omega arith) (c .before .before .before .before .before .before .before .pre .1 .0) (omega arith),
+      running-start (a .file .now) (boardOf (a .node) (slotsOf (a .roles .now) (a .events .now) (a .statuses .now) (a .marks .now))) (callsAt (a .file .now)) (a .first) (a .text .now) (omega arith) (c .before .before .before .before .before .before .before .pre .1 .0) (omega arith),
       refl,
       refl,
       refl,
@@ -58,7 +58,7 @@ part-put-line-start : tie.Need-part-put-line-start Inv-loop μ-loop
 part-put-line-start c = omega arith
 
 part-put-line-end : tie.Need-part-put-line-end Inv-loop μ-loop
-part-put-line-end c = omega (arith, c .before .before .before .before .before .before .before .call .ensures .1 .1 .0)
+part-put-line-end c = omega (arith, c .before .before .before .before .before .before .before .call .ensures .few)
 
 put-line-requires : tie.Need-put-line-requires Inv-loop μ-loop
 put-line-requires c κs = search needs
@@ -81,7 +81,7 @@ loop-again c =
     let call = c .before .before .before .before .before .before .before .before .before .before .before .before .before .before .call in
     let e = call .ensures in
     let p = c .before .before .before .put-line .ensures in (
-      running-next (l .inv .0) (c .before .before .before .before .before .before .before .before .before .before .before .before .before .before .before .before .before .before .loop-test .taken) (e .0) (e .1 .0) (first-part (call .result .bytes) (call .last .1 .1 .1 .1 .1 .1 .1 .0) ∙ e .1 .1 .1) (p .0) (p .1) (c .size-at .ensures),
+      running-next (l .inv .0) (c .before .before .before .before .before .before .before .before .before .before .before .before .before .before .before .before .before .before .loop-test .taken) e (first-part (call .result .bytes) (call .last .1 .1 .1 .1 .1 .1 .1 .0)) (p .0) (p .1) (c .size-at .ensures),
       call .kept .1 .1 .1 .1 .1 .1 .1 .0 ∙ l .inv .1,
       call .kept .1 .1 .1 .1 .1 .0 ∙ l .inv .2,
       call .kept .1 .1 .1 .1 .1 .1 .0 ∙ l .inv .3,

@@ -1,15 +1,14 @@
 -- The tests in the order of the code.
 use Prim.Native.Nat.{ℕ, _+_}
 use mathlib.Core.Path.{_≡_}
-use mathlib.Core.Bool.{_||_}
 use mathlib.Core.List.{List}
 use native.Mathlib.Omega.{arith}
-use borrow.Author.Tests.{eq-eqb, ne-eqb, le-leb, lt-leb}
+use borrow.Author.Tests.{le-leb, lt-leb}
 use borrow.Author.Needs.{needs}
-use lib.Dec.{eqb, leb}
+use lib.Dec.{leb}
 use lib.ListN.{length}
-use Rattle.rehearsal.specs.Files.{callIn, roomIn, headSize, sizeAt, goodCall}
-use Rattle.rehearsal.proofs.Good.{head-some, size-some, room-left}
+use Rattle.rehearsal.specs.Files.{callIn, headSize, sizeAt, roomAt, goodCall}
+use Rattle.rehearsal.proofs.Good.{head-some, room-left, size-some}
 use Rattle.rehearsal.proofs.files.good_call.Statement.{statement}
 use Rattle.rehearsal.proofs.files.good_call.Tie as tie
 
@@ -19,7 +18,7 @@ file c = c .before .before .before .before .before .before .before .before .args
 abbrev place : tie.Else4 → ℕ
 place c = c .before .before .before .before .before .before .before .before .args .at
 
-left-to-test : (c : tie.Else4) → goodCall (file c) (place c) ≡ (eqb (callIn (file c) (place c)) 4 || leb (roomIn (file c) (place c)) 2048)
+left-to-test : (c : tie.Else4) → goodCall (file c) (place c) ≡ leb (roomAt (file c) (place c)) 2048
 left-to-test c =
     room-left (file c) (place c) (c .before .before .before .before .before .if1 .left) (c .before .before .before .before .if2 .left) (omega (arith, c .before .before .if3 .left, c .before .before .before .head-size .ensures)) (omega (arith, c .if4 .left, c .before .size-at .ensures))
 
@@ -64,17 +63,11 @@ returns-4 c =
     let head = rw (c .before .before .before .head-size .ensures) at (c .before .before .if3 .left) in
     rw (le-leb 1 call (c .before .before .before .before .before .if1 .left), le-leb call 5 (c .before .before .before .before .if2 .left), le-leb (a .at + headSize call) (length (a .file .now)) head, lt-leb (a .at + sizeAt (a .file .now) (a .at)) (length (a .file .now)) (omega (arith, c .if4 .taken, c .before .size-at .ensures)))
 
+room-at-requires : tie.Need-room-at-requires
+room-at-requires c κs = let a = c .before .before .before .before .before .before .before .before .args in omega (arith, c .if4 .left, c .before .size-at .ensures, size-some (a .file .now) (a .at))
+
 returns-5 : tie.Need-returns-5
-returns-5 c = rw (left-to-test (c .before), eq-eqb (callIn (file (c .before)) (place (c .before))) 4 (c .if5 .taken))
-
-add-number : tie.Need-add-number
-add-number c = search needs
-
-number-requires : tie.Need-number-requires
-number-requires c κs = let a = c .before .before .before .before .before .before .before .before .before .args in omega (arith, c .before .if4 .left, c .before .before .size-at .ensures, size-some (a .file .now) (a .at))
-
-returns-6 : tie.Need-returns-6
-returns-6 c = rw (c .number .ensures, left-to-test (c .before .before), ne-eqb (callIn (file (c .before .before)) (place (c .before .before))) 4 (c .before .if5 .left))
+returns-5 c = rw (c .room-at .ensures, left-to-test (c .before))
 
 pub good-call-spec : {M : Type 1} → statement M
 good-call-spec =
@@ -89,7 +82,5 @@ good-call-spec =
     sub-if4
     size-at-requires
     returns-4
-    returns-5
-    add-number
-    number-requires
-    returns-6)
+    room-at-requires
+    returns-5)

@@ -1,4 +1,5 @@
 -- The lists are filled in up to slot i.
+use borrow.Author.Needs.{needs}
 use Prim.Native.Nat.{_-_}
 use mathlib.Core.Path.{refl}
 use native.Mathlib.Omega.{arith}
@@ -32,11 +33,11 @@ shared-slice-read-roles c = omega arith
 slice-write-roles : tie.Need-slice-write-roles Inv-loop μ-loop
 slice-write-roles c = omega arith
 
-add-number : tie.Need-add-number Inv-loop μ-loop
-add-number c = omega arith
+add-read-at : tie.Need-add-read-at Inv-loop μ-loop
+add-read-at c = omega arith
 
-number-requires : tie.Need-number-requires Inv-loop μ-loop
-number-requires c κs = omega arith
+read-at-requires : tie.Need-read-at-requires Inv-loop μ-loop
+read-at-requires c κs = search needs
 
 mul-events : tie.Need-mul-events Inv-loop μ-loop
 mul-events c = omega arith
@@ -62,7 +63,7 @@ loop-less c = omega arith
 loop-again : tie.Need-loop-again Inv-loop μ-loop
 loop-again c =
     let l = c .before .before .before .before .loop in
-    (loaded-next (l .inv .0) (omega arith) refl, loaded-next (l .inv .1) (omega arith) (c .before .number .ensures), loaded-next (l .inv .2) (omega arith) refl)
+    (loaded-next (l .inv .0) (omega arith) refl, loaded-next (l .inv .1) (omega arith) (c .before .read-at .ensures), loaded-next (l .inv .2) (omega arith) refl)
 
 same-length : tie.Need-same-length Inv-loop μ-loop
 same-length c = c .before .loop .inv .0 .size
@@ -91,8 +92,8 @@ load-spec =
     add-at
     shared-slice-read-roles
     slice-write-roles
-    add-number
-    number-requires
+    add-read-at
+    read-at-requires
     mul-events
     slice-write-events
     add-statuses
