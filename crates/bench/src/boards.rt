@@ -1,6 +1,6 @@
 // The boards and the panel: real nodes with two slots each.
+use node_rules::Call;
 use node_rules::Node;
-use range::Block;
 
 pub(crate) const ROUTE_OF_7: u64 = 0x0A00_0000_0007_0001;
 
@@ -47,10 +47,7 @@ fn laid_out(id: u64, roles: [u8; 2], events: [u64; 2]) -> Board {
         node: Node {
             id,
             state: 0,
-            automatic: Block {
-                start: 0x0100_0000_0000_0000,
-                k: 16,
-            },
+            automatic: range::block_of(range::HOUSE),
         },
         roles,
         events,
@@ -59,40 +56,20 @@ fn laid_out(id: u64, roles: [u8; 2], events: [u64; 2]) -> Board {
     }
 }
 
-pub(crate) fn comes_up(b: Board) -> Done {
+// A call on a board, with the message that reached it, if the call is to take one.
+pub(crate) fn does(b: Board, call: Call, message: &[u8]) -> Done {
     let roles = b.roles;
     let events = b.events;
-    let statuses = b.statuses;
+    let mut statuses = b.statuses;
     let mut marks = b.marks;
     let mut bytes = [0u8; 32];
-    let a = node::initialise(b.node, &roles, &events, &statuses, &mut marks, &mut bytes);
-    let next = a.node;
-    Done {
-        board: Board {
-            node: next,
-            roles,
-            events,
-            statuses,
-            marks,
-        },
-        bytes,
-        length: a.bytes,
-        matches: a.matches,
-    }
-}
-
-pub(crate) fn announces(b: Board, slot: usize) -> Done {
-    let roles = b.roles;
-    let events = b.events;
-    let statuses = b.statuses;
-    let mut marks = b.marks;
-    let mut bytes = [0u8; 32];
-    let a = node::announce(
+    let a = node::perform(
         b.node,
-        slot,
+        call,
+        message,
         &roles,
         &events,
-        &statuses,
+        &mut statuses,
         &mut marks,
         &mut bytes,
     );
@@ -109,39 +86,4 @@ pub(crate) fn announces(b: Board, slot: usize) -> Done {
         length: a.bytes,
         matches: a.matches,
     }
-}
-
-pub(crate) fn produces(b: Board, slot: usize) -> Done {
-    let roles = b.roles;
-    let events = b.events;
-    let statuses = b.statuses;
-    let marks = b.marks;
-    let mut bytes = [0u8; 32];
-    let a = node::produce(b.node, slot, &roles, &events, &statuses, &marks, &mut bytes);
-    Done {
-        board: b,
-        bytes,
-        length: a.bytes,
-        matches: a.matches,
-    }
-}
-
-// Which slots match the first so many bytes that reached the board.
-pub(crate) fn matched(b: Board, message: [u8; 32], length: usize) -> u64 {
-    let roles = b.roles;
-    let events = b.events;
-    let statuses = b.statuses;
-    let mut marks = b.marks;
-    let mut bytes = [0u8; 32];
-    let end = length % 33;
-    let a = node::receive(
-        b.node,
-        &message[0..end],
-        &roles,
-        &events,
-        &statuses,
-        &mut marks,
-        &mut bytes,
-    );
-    a.matches
 }

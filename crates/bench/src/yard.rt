@@ -1,137 +1,47 @@
 // The yard: a box, a panel on leg 0, and boards 7 and 9 on leg 1.
 use crate::boards;
 use crate::boards::Board;
-use crate::boards::Done;
 use crate::words::legs;
 use crate::words::lines;
 use crate::words::say;
 use gateway::Answer;
-use gateway_rules::Gateway;
+use gateway::Gateway;
+use node_rules::Call;
 
-const PANEL_LEG: u8 = 0;
+pub(crate) const PANEL: usize = 0;
 
-const BOARDS_LEG: u8 = 1;
+pub(crate) const SEVEN: usize = 1;
 
-const HOUSE: u64 = 0x0100_0000_0000_FFFF;
+pub(crate) const NINE: usize = 2;
 
 pub(crate) struct Yard {
     pub(crate) gateway: Gateway,
-    pub(crate) panel: Board,
-    pub(crate) seven: Board,
-    pub(crate) nine: Board,
-}
-
-// What a board did and the box passed on.
-struct Passed {
-    gateway: Gateway,
-    board: Board,
+    pub(crate) boards: [Board; 3],
 }
 
 pub(crate) fn laid_out() -> Yard {
-    let started = gateway::start(4, HOUSE);
+    let started = gateway::start(4, range::HOUSE);
     let gateway = started.gateway;
     Yard {
         gateway,
-        panel: boards::panel(),
-        seven: boards::points(0x0A00_0000_0007, boards::ROUTE_OF_7, 0x0A00_0000_0007_0002),
-        nine: boards::points(0x0A00_0000_0009, boards::ROUTE_OF_9, 0x0A00_0000_0009_0002),
+        boards: [
+            boards::panel(),
+            boards::points(0x0A00_0000_0007, boards::ROUTE_OF_7, 0x0A00_0000_0007_0002),
+            boards::points(0x0A00_0000_0009, boards::ROUTE_OF_9, 0x0A00_0000_0009_0002),
+        ],
     }
 }
 
-pub(crate) fn panel_restarts(y: Yard) -> Yard {
-    let gateway = y.gateway;
-    let panel = y.panel;
-    let seven = y.seven;
-    let nine = y.nine;
-    let done = restarts(gateway, PANEL_LEG, panel);
-    let gateway = done.gateway;
-    let panel = done.board;
-    Yard {
-        gateway,
-        panel,
-        seven,
-        nine,
-    }
+pub(crate) fn restarts(y: Yard, who: usize) -> Yard {
+    say(b"  Initialization Complete");
+    pass_on(y, who, Call::Initialise)
 }
 
-pub(crate) fn panel_announces(y: Yard) -> Yard {
-    let gateway = y.gateway;
-    let panel = y.panel;
-    let seven = y.seven;
-    let nine = y.nine;
-    let done = tells(gateway, PANEL_LEG, panel);
-    let gateway = done.gateway;
-    let panel = done.board;
-    Yard {
-        gateway,
-        panel,
-        seven,
-        nine,
-    }
-}
-
-pub(crate) fn seven_restarts(y: Yard) -> Yard {
-    let gateway = y.gateway;
-    let panel = y.panel;
-    let seven = y.seven;
-    let nine = y.nine;
-    let done = restarts(gateway, BOARDS_LEG, seven);
-    let gateway = done.gateway;
-    let seven = done.board;
-    Yard {
-        gateway,
-        panel,
-        seven,
-        nine,
-    }
-}
-
-pub(crate) fn seven_announces(y: Yard) -> Yard {
-    let gateway = y.gateway;
-    let panel = y.panel;
-    let seven = y.seven;
-    let nine = y.nine;
-    let done = tells(gateway, BOARDS_LEG, seven);
-    let gateway = done.gateway;
-    let seven = done.board;
-    Yard {
-        gateway,
-        panel,
-        seven,
-        nine,
-    }
-}
-
-pub(crate) fn nine_restarts(y: Yard) -> Yard {
-    let gateway = y.gateway;
-    let panel = y.panel;
-    let seven = y.seven;
-    let nine = y.nine;
-    let done = restarts(gateway, BOARDS_LEG, nine);
-    let gateway = done.gateway;
-    let nine = done.board;
-    Yard {
-        gateway,
-        panel,
-        seven,
-        nine,
-    }
-}
-
-pub(crate) fn nine_announces(y: Yard) -> Yard {
-    let gateway = y.gateway;
-    let panel = y.panel;
-    let seven = y.seven;
-    let nine = y.nine;
-    let done = tells(gateway, BOARDS_LEG, nine);
-    let gateway = done.gateway;
-    let nine = done.board;
-    Yard {
-        gateway,
-        panel,
-        seven,
-        nine,
-    }
+pub(crate) fn announces(y: Yard, who: usize) -> Yard {
+    say(b"  slot 0 identified");
+    let y = pass_on(y, who, Call::Announce(0));
+    say(b"  slot 1 identified");
+    pass_on(y, who, Call::Announce(1))
 }
 
 // The panel's reports go through the box, and each board on the leg looks at what reaches it.
@@ -142,30 +52,27 @@ pub(crate) fn panel_tries(y: Yard) {
     tries(y, 1);
 }
 
-fn restarts(g: Gateway, leg: u8, b: Board) -> Passed {
-    say(b"  Initialization Complete");
-    pass_on(g, leg, boards::comes_up(b))
+// The panel is on leg 0, the boards are on leg 1.
+fn leg(who: usize) -> u8 {
+    if who == PANEL { 0 } else { 1 }
 }
 
-fn tells(g: Gateway, leg: u8, b: Board) -> Passed {
-    say(b"  slot 0 identified");
-    let first = pass_on(g, leg, boards::announces(b, 0));
-    let gateway = first.gateway;
-    let board = first.board;
-    say(b"  slot 1 identified");
-    pass_on(gateway, leg, boards::announces(board, 1))
-}
-
-// What was written goes to the box at its leg.
-fn pass_on(g: Gateway, leg: u8, d: Done) -> Passed {
-    let board = d.board;
-    let bytes = d.bytes;
-    let a = taken(g, leg, bytes, d.length);
+// What a board writes goes to the box at its leg.
+fn pass_on(y: Yard, who: usize, call: Call) -> Yard {
+    let mut boards = y.boards;
+    let place = who % 3;
+    let board = boards[place];
+    let gateway = y.gateway;
+    let done = boards::does(board, call, b"");
+    let bytes = done.bytes;
+    let a = taken(gateway, leg(place), bytes, done.length);
+    let after = done.board;
+    boards[place] = after;
     let gateway = a.gateway;
     let head = gateway.head;
     legs(a.sent);
     lines(head.count);
-    Passed { gateway, board }
+    Yard { gateway, boards }
 }
 
 // The first so many bytes reach the box.
@@ -176,25 +83,29 @@ fn taken(g: Gateway, leg: u8, bytes: [u8; 32], length: usize) -> Answer {
 
 fn tries(y: Yard, slot: usize) {
     let gateway = y.gateway;
-    let panel = y.panel;
-    let seven = y.seven;
-    let nine = y.nine;
-    let d = boards::produces(panel, slot);
-    let report = d.bytes;
-    let a = taken(gateway, PANEL_LEG, report, d.length);
+    let boards = y.boards;
+    let panel = boards[0];
+    let seven = boards[1];
+    let nine = boards[2];
+    let done = boards::does(panel, Call::Produce(slot), b"");
+    let report = done.bytes;
+    let a = taken(gateway, leg(PANEL), report, done.length);
     legs(a.sent);
     if a.sent / 2 % 2 == 0 {
         say(b"; nothing moves\n");
         return;
     }
-    answers(b"; board 7 ", boards::matched(seven, report, d.length));
-    answers(b", board 9 ", boards::matched(nine, report, d.length));
+    answers(b"; board 7 ", seven, report, done.length);
+    answers(b", board 9 ", nine, report, done.length);
     say(b"\n");
 }
 
-fn answers(who: &[u8], matches: u64) {
+// What a board makes of the report that reached it.
+fn answers(who: &[u8], board: Board, report: [u8; 32], length: usize) {
+    let end = length % 33;
+    let heard = boards::does(board, Call::Receive, &report[0..end]);
     say(who);
-    if matches == 0 {
+    if heard.matches == 0 {
         say(b"stands still");
         return;
     }

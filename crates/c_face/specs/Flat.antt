@@ -18,8 +18,8 @@ use Rattle.c_face.specs.declared.FlatWriting.{FlatWriting}
 
 -- ---- ranges
 
-abbrev pub numberOf : Told ℕ → FlatNumber
-numberOf t = record { refusal = t .refusal; number = t .value }
+abbrev pub toldNumber : Told ℕ → FlatNumber
+toldNumber t = record { refusal = t .refusal; number = t .value }
 
 -- ---- messages
 
@@ -45,8 +45,8 @@ messageOf m = record {
   event = fieldValue (m .event);
 }
 
-abbrev pub messageIn : FlatMessage → Message
-messageIn f = record { mti = f .mti; source = f .source; destination = fieldOf (f .«has_destination») (f .destination); event = fieldOf (f .«has_event») (f .event) }
+abbrev pub messageFrom : FlatMessage → Message
+messageFrom f = record { mti = f .mti; source = f .source; destination = fieldOf (f .«has_destination») (f .destination); event = fieldOf (f .«has_event») (f .event) }
 
 abbrev pub noMessage : FlatMessage
 noMessage = record { mti = 0; source = 0; «has_destination» = 0; destination = 0; «has_event» = 0; event = 0 }

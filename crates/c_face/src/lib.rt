@@ -6,16 +6,16 @@ ghost use Rattle.range.specs.Answer.{numberTold};
 ghost use Rattle.text.specs.Text.{filledAt, endAt};
 ghost use Rattle.message.specs.Reading.{readOf};
 ghost use Rattle.message.specs.Writing.{writeOf, outAfter};
-ghost use Rattle.gateway_rules.specs.State.{gateOf, lists};
 ghost use Rattle.gateway_rules.specs.Step.{start as startedBy, step as stepOf};
+ghost use Rattle.gateway.specs.State.{gateOf, entered, left};
 ghost use Rattle.gateway.specs.Answers.{seenIn, seenOf, refusalKeeps, seenLent, lentStep, lentRefusalKeeps};
 ghost use Rattle.replay.specs.Lines.{textOf as trialText};
 ghost use Rattle.rehearsal.specs.Lines.{textOf as boardText};
-ghost use Rattle.c_face.specs.Flat.{numberOf, messageOf, messageIn, readingOf, writingOf, hasField, fieldValue, fieldOf};
+ghost use Rattle.c_face.specs.Flat.{toldNumber, messageOf, messageFrom, readingOf, writingOf, hasField, fieldValue, fieldOf};
 use gateway::Answer;
+use gateway::Gateway;
+use gateway::Head;
 use gateway::LentAnswer;
-use gateway_rules::Gateway;
-use gateway_rules::Head;
 use message::Field;
 use message::Message;
 use message::Reading;
@@ -62,7 +62,7 @@ pub extern "C" fn hrislanoth_block_of(number: u64) -> Block
 
 #[no_mangle]
 pub extern "C" fn hrislanoth_number_of(block: Block) -> FlatNumber
-    ensures { λ n. ⌜ n ≡ numberOf (numberTold block) ⌝ }
+    ensures { λ n. ⌜ n ≡ toldNumber (numberTold block) ⌝ }
 {
     match range::number_of(block) {
         RangeNumber::Number(number) => FlatNumber { refusal: 0, number },
@@ -110,8 +110,8 @@ pub extern "C" fn hrislanoth_write(
     content: &[u8],
     out: &mut [u8],
 ) -> FlatWriting
-    ensures { λ w. ⌜ w ≡ writingOf (writeOf (messageIn message) (now (content .entry)) (now (out .entry))) ⌝ }
-    ensures { λ _. ⌜ now (out .exit) ≡ outAfter (messageIn message) (now (content .entry)) (now (out .entry)) ⌝ }
+    ensures { λ w. ⌜ w ≡ writingOf (writeOf (messageFrom message) (now (content .entry)) (now (out .entry))) ⌝ }
+    ensures { λ _. ⌜ now (out .exit) ≡ outAfter (messageFrom message) (now (content .entry)) (now (out .entry)) ⌝ }
 {
     let m = Message {
         mti: message.mti,
@@ -150,8 +150,8 @@ pub extern "C" fn hrislanoth_receive_lent(
     port: u8,
     bytes: &[u8],
 ) -> LentAnswer
-    ensures { λ a. ⌜ seenLent head a (lists (now (nodes .exit)) (now (starts .exit)) (now (ports .exit)) (now (sizes .exit))) ≡ seenOf (lentStep head (lists (now (nodes .entry)) (now (starts .entry)) (now (ports .entry)) (now (sizes .entry))) port (now (bytes .entry))) ⌝ }
-    ensures { λ a. ⌜ lentRefusalKeeps head (lists (now (nodes .entry)) (now (starts .entry)) (now (ports .entry)) (now (sizes .entry))) a (lists (now (nodes .exit)) (now (starts .exit)) (now (ports .exit)) (now (sizes .exit))) ⌝ }
+    ensures { λ a. ⌜ seenLent head a (left nodes starts ports sizes) ≡ seenOf (lentStep head (entered nodes starts ports sizes) port (now (bytes .entry))) ⌝ }
+    ensures { λ a. ⌜ lentRefusalKeeps head (entered nodes starts ports sizes) a (left nodes starts ports sizes) ⌝ }
 {
     gateway::receive_lent(head, nodes, starts, ports, sizes, port, bytes)
 }

@@ -1,6 +1,6 @@
 use mathlib.Core.Path.{sym, ap, _∙_}
 use Rattle.range.specs.Answer.{rangeNumber}
-use Rattle.c_face.specs.Flat.{numberOf}
+use Rattle.c_face.specs.Flat.{toldNumber}
 use borrow.Author.Needs.{needs}
 use Rattle.c_face.proofs.hrislanoth_number_of.Statement.{statement}
 use Rattle.c_face.proofs.hrislanoth_number_of.Tie as tie
@@ -15,10 +15,10 @@ enum-told : tie.Need-enum-told
 enum-told c = search needs
 
 returns : tie.Need-returns
-returns c = ap numberOf (ap rangeNumber (sym (c .before .number .given .1)) ∙ c .before .before .before .number-of .ensures)
+returns c = ap toldNumber (ap rangeNumber (sym (c .before .number .given .1)) ∙ c .before .before .before .number-of .ensures)
 
 returns-2 : tie.Need-returns-2
-returns-2 c = ap numberOf (ap rangeNumber (sym (c .enum-told .given .1)) ∙ c .before .before .number-of .ensures)
+returns-2 c = ap toldNumber (ap rangeNumber (sym (c .enum-told .given .1)) ∙ c .before .before .number-of .ensures)
 
 pub hrislanoth-number-of-spec : {M : Type 1} → statement M
 hrislanoth-number-of-spec =

@@ -3,14 +3,14 @@ use Rattle.message.specs.declared.Field.{Field}
 use Rattle.message.specs.declared.Message.{Message}
 use Rattle.message.specs.Writing.{writeOf, outAfter}
 use Rattle.c_face.specs.declared.FlatMessage.{FlatMessage}
-use Rattle.c_face.specs.Flat.{fieldOf, messageIn, writingOf}
+use Rattle.c_face.specs.Flat.{fieldOf, messageFrom, writingOf}
 use borrow.Author.Needs.{needs}
 use Rattle.c_face.proofs.hrislanoth_write.Statement.{statement}
 use Rattle.c_face.proofs.hrislanoth_write.Tie as tie
 
 -- The message that is written is the flat one.
 same-message : (f : FlatMessage) {d e : Field} → d ≡ fieldOf (f .«has_destination») (f .destination) → e ≡ fieldOf (f .«has_event») (f .event)
-    → record { mti = f .mti; source = f .source; destination = d; event = e } ≡ messageIn f
+    → record { mti = f .mti; source = f .source; destination = d; event = e } ≡ messageFrom f
 same-message f p q = λ i. record { mti = f .mti; source = f .source; destination = p i; event = q i }
 
 field-requires : tie.Need-field-requires
