@@ -1,31 +1,59 @@
-// Runs the gateway through the stories of the documents, and prints a line a step.
-mod bad_states;
-mod full_table;
-mod lent_lists;
-mod messages;
-mod ranges;
+// Puts the box through the cases of a file, a command a line, and prints each line and what came of it.
+mod commands;
+mod lent;
+mod reading;
 mod report;
-mod starts;
-mod steps;
-mod stories;
+mod tables;
+
+use gateway::Gateway;
+use libc::STDIN_FILENO;
+
+const NEW_LINE: u8 = 10;
 
 fn main() {
-    stories::seven_entries();
-    stories::restarts();
-    stories::yard();
-    full_table::at_port_1();
-    full_table::at_port_7();
-    ranges::whole_space();
-    ranges::automatic();
-    messages::announcing();
-    messages::reports();
-    messages::refused();
-    messages::passed_along();
-    bad_states::ports_and_marks();
-    bad_states::lines();
-    bad_states::automatic_block();
-    bad_states::counts();
-    lent_lists::lengths();
-    starts::ports();
-    starts::first_messages();
+    let mut file = io::large_buffer();
+    let length = io::read_full(STDIN_FILENO, &mut file);
+    each_line(&file[0..length]);
+}
+
+fn each_line(file: &[u8]) {
+    let mut g = tables::laid_out([0; 16]);
+    let mut line = 0;
+    let mut start = 0;
+    let mut i = 0;
+    while i < file.len() {
+        let at = i;
+        i += 1;
+        if file[at] != NEW_LINE {
+            continue;
+        }
+        line += 1;
+        g = step(g, &file[start..at], line);
+        start = i;
+    }
+}
+
+// Titles are printed as they are, comments are not.
+fn step(g: Gateway, line: &[u8], number: usize) -> Gateway {
+    if line.len() == 0 {
+        return g;
+    }
+    let first = line[0];
+    if first == b'#' {
+        return g;
+    }
+    report::echo(line);
+    if first == b'=' {
+        return g;
+    }
+    run(g, line, number)
+}
+
+fn run(g: Gateway, line: &[u8], number: usize) -> Gateway {
+    let l = reading::read_line(line, 0);
+    if !reading::is_read(l) {
+        report::not_read(number);
+        return g;
+    }
+    commands::obey(g, l, number)
 }

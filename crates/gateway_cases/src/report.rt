@@ -1,76 +1,126 @@
 // What is printed of a step.
+use crate::tables::total;
 use gateway::Answer;
-use gateway::LentAnswer;
-use gateway_rules::Gateway;
+use gateway::Gateway;
+use gateway::Head;
 use libc::STDOUT_FILENO;
 
-pub(crate) fn heading(title: &[u8]) {
-    text(title);
-    text(b"\n");
-}
-
-// The label, a digit a port or the refusal, and the next state, which comes back.
-pub(crate) fn told(label: &[u8], a: Answer) -> Gateway {
+// What a message came to, and the next state, which comes back.
+pub(crate) fn told(before: Gateway, a: Answer) -> Gateway {
     let g = a.gateway;
     let head = g.head;
-    said(label, a.refusal, a.sent, head.ports, head.marks, head.count);
+    answer(a.refusal, a.sent, head.ports);
+    kept(a.refusal, total(before, 256), total(g, 256));
+    state(head, total(g, head.count));
+    lines(g);
     g
 }
 
-// The same of a step on lent lists.
-pub(crate) fn told_lent(label: &[u8], ports: u8, a: LentAnswer) {
-    said(label, a.refusal, a.sent, ports, a.marks, a.count);
-}
-
-fn said(label: &[u8], refusal: u8, sent: u8, ports: u8, marks: u8, count: usize) {
-    text(label);
-    text(b": ");
-    if refusal == 0 {
-        digits(sent, ports);
-    } else {
-        text(b"refused ");
-        decimal(refusal as u64);
-    }
-    state(marks, count);
-}
-
-// Of a run of steps that are not printed, only what they left.
-pub(crate) fn left(label: &[u8], g: Gateway) {
-    text(label);
-    text(b": done");
+// The same of a start.
+pub(crate) fn started(a: Answer) -> Gateway {
+    let g = a.gateway;
     let head = g.head;
-    state(head.marks, head.count);
+    answer(a.refusal, a.sent, head.ports);
+    state(head, 0);
+    g
 }
 
-fn state(marks: u8, count: usize) {
-    text(b", ");
-    decimal(count as u64);
-    text(b" lines, marks ");
-    io::print_hex(STDOUT_FILENO, marks as u64, 1);
-    text(b"\n");
-}
-
-fn digits(sent: u8, ports: u8) {
-    digit(sent, ports, 0);
-    digit(sent, ports, 1);
-    digit(sent, ports, 2);
-    digit(sent, ports, 3);
-    digit(sent, ports, 4);
-    digit(sent, ports, 5);
-    digit(sent, ports, 6);
-    digit(sent, ports, 7);
-}
-
-fn digit(sent: u8, ports: u8, p: u8) {
-    if p < ports {
-        decimal(((sent >> (p % 8)) % 2) as u64);
+fn answer(refusal: u8, ports_sent: u8, ports: u8) {
+    say(b"  ");
+    if refusal == 0 {
+        sent(ports_sent, ports);
+    } else {
+        say(b"refused ");
+        io::print_decimal(STDOUT_FILENO, refusal as u64);
     }
 }
 
-fn decimal(n: u64) {
-    io::print_decimal(STDOUT_FILENO, n);
+// A digit a port.
+fn sent(set: u8, ports: u8) {
+    let mut rest = set;
+    let mut p = 0;
+    while p < ports {
+        io::print_decimal(STDOUT_FILENO, (rest % 2) as u64);
+        rest /= 2;
+        p += 1;
+    }
 }
 
-fn text(t: &[u8]) {
+// Whether a refused message left the lists as they were, past the count too.
+fn kept(refusal: u8, old_total: u64, new_total: u64) {
+    if refusal == 0 {
+        return;
+    }
+    if old_total == new_total {
+        say(b", kept");
+    } else {
+        say(b", CHANGED");
+    }
+}
+
+// As the command that lays it out, and of a long table the total.
+fn state(head: Head, of_all: u64) {
+    let automatic = head.automatic;
+    say(b"; box");
+    hex(head.ports as u64, 1);
+    hex(head.marks as u64, 1);
+    hex(automatic.start, 16);
+    hex(automatic.k as u64, 1);
+    hex(head.count as u64, 1);
+    if 8 < head.count {
+        say(b"; total");
+        hex(of_all, 16);
+    }
+    say(b"\n");
+}
+
+// Of a long table the first four and the last four.
+fn lines(g: Gateway) {
+    let head = g.head;
+    let count = head.count;
+    let mut i = 0;
+    while i < 256 {
+        if count <= i {
+            return;
+        }
+        let at = i;
+        i += 1;
+        if 4 <= at {
+            if at + 4 < count {
+                continue;
+            }
+        }
+        line(at, g.ports[at], g.nodes[at], g.starts[at], g.sizes[at]);
+    }
+}
+
+fn line(place: usize, port: u8, node: u64, start: u64, k: u8) {
+    say(b"   ");
+    hex(place as u64, 1);
+    say(b":");
+    hex(port as u64, 1);
+    hex(node, 12);
+    hex(start, 16);
+    hex(k as u64, 1);
+    say(b"\n");
+}
+
+pub(crate) fn not_read(number: usize) {
+    say(b"  line ");
+    io::print_decimal(STDOUT_FILENO, number as u64);
+    say(b": cannot be read\n");
+}
+
+fn hex(n: u64, width: usize) {
+    say(b" ");
+    io::print_hex(STDOUT_FILENO, n, width);
+}
+
+pub(crate) fn echo(line: &[u8]) {
+    say(line);
+    say(b"\n");
+}
+
+fn say(t: &[u8]) {
     io::write_all(STDOUT_FILENO, t);
 }

@@ -2,141 +2,110 @@
 use node_rules::Node;
 use range::Block;
 
-pub(crate) const BOARD: u64 = 0x0A00_0000_0001;
-
-pub(crate) const EVENT_A: u64 = 0x0A00_0000_0001_0001;
-
-pub(crate) const EVENT_B: u64 = 0x0A00_0000_0001_0002;
-
-pub(crate) const EVENT_C: u64 = 0x0A00_0000_0001_0003;
-
-// The house block's first event, and its last.
-pub(crate) const HOUSE: u64 = 0x0100_0000_0000_0000;
-
-pub(crate) const STOP: u64 = 0x0100_0000_0000_FFFF;
-
 // How much of each list is lent.
 pub(crate) struct Lengths {
-    pub(crate) roles: usize,
-    pub(crate) events: usize,
-    pub(crate) statuses: usize,
-    pub(crate) marks: usize,
+    pub(crate) roles: u64,
+    pub(crate) events: u64,
+    pub(crate) statuses: u64,
+    pub(crate) marks: u64,
 }
 
 // The record and the lists, which have a place more than a board may have slots.
 pub(crate) struct Bench {
     pub(crate) node: Node,
+    pub(crate) lengths: Lengths,
     pub(crate) roles: [u8; 65],
     pub(crate) events: [u64; 65],
     pub(crate) statuses: [u8; 65],
     pub(crate) marks: [u8; 65],
-    pub(crate) lengths: Lengths,
 }
 
-// Two equal producers, a consumer of their event, a producer, both of an automatic event, and two equal consumers.
-pub(crate) fn board() -> Bench {
-    let mut b = with_lengths(all_alike(0, 0, 0), 8, 8, 8, 8);
-    b = with_slot(b, 0, 0, EVENT_A, 0, 0);
-    b = with_slot(b, 1, 0, EVENT_A, 1, 0);
-    b = with_slot(b, 2, 1, EVENT_A, 2, 0);
-    b = with_slot(b, 3, 0, EVENT_B, 2, 0);
-    b = with_slot(b, 4, 1, STOP, 1, 0);
-    b = with_slot(b, 5, 0, STOP, 0, 0);
-    b = with_slot(b, 6, 1, EVENT_C, 0, 0);
-    with_slot(b, 7, 1, EVENT_C, 1, 0)
+// The board of the next call, and the one that was put by.
+pub(crate) struct Benches {
+    pub(crate) now: Bench,
+    pub(crate) kept: Bench,
 }
 
-// 64 slots, each with an event of its own, producers and consumers by turns.
-pub(crate) fn all_different() -> Bench {
-    let mut now = all_alike(0, 0, 0);
-    let mut i: usize = 0;
-    while i < 64 {
-        now = different(now, i);
-        i += 1;
-    }
-    now
-}
-
-fn different(b: Bench, i: usize) -> Bench {
-    with_slot(
-        b,
-        i,
-        (i % 2) as u8,
-        EVENT_A + (i % 64) as u64,
-        (i % 3) as u8,
-        0,
-    )
-}
-
-// 64 slots of one role, event and status, not Initialized.
-pub(crate) fn all_alike(role: u8, event: u64, status: u8) -> Bench {
-    let node = Node {
-        id: BOARD,
-        state: 0,
-        automatic: Block {
-            start: HOUSE,
-            k: 16,
-        },
-    };
-    let lengths = Lengths {
-        roles: 64,
-        events: 64,
-        statuses: 64,
-        marks: 64,
-    };
+pub(crate) fn bare() -> Bench {
     Bench {
-        node,
-        roles: [role; 65],
-        events: [event; 65],
-        statuses: [status; 65],
+        node: Node {
+            id: 0,
+            state: 0,
+            automatic: Block { start: 0, k: 0 },
+        },
+        lengths: Lengths {
+            roles: 0,
+            events: 0,
+            statuses: 0,
+            marks: 0,
+        },
+        roles: [0; 65],
+        events: [0; 65],
+        statuses: [0; 65],
         marks: [0; 65],
-        lengths,
     }
 }
 
-pub(crate) fn with_slot(
-    b: Bench,
-    slot: usize,
-    role: u8,
-    event: u64,
-    status: u8,
-    mark: u8,
-) -> Bench {
-    let mut now = b;
-    let i = slot % 65;
-    now.roles[i] = role;
-    now.events[i] = event;
-    now.statuses[i] = status;
-    now.marks[i] = mark;
-    now
-}
-
-pub(crate) fn with_record(b: Bench, id: u64, state: u8, start: u64, k: u8) -> Bench {
-    let mut now = b;
-    let automatic = Block { start, k };
+pub(crate) fn with_record(b: Bench, numbers: [u64; 16]) -> Bench {
+    let mut next = b;
+    let automatic = Block {
+        start: numbers[3],
+        k: byte(numbers[4]),
+    };
     let node = Node {
-        id,
-        state,
+        id: numbers[1],
+        state: byte(numbers[2]),
         automatic,
     };
-    now.node = node;
-    now
+    next.node = node;
+    next
 }
 
-pub(crate) fn with_lengths(
-    b: Bench,
-    roles: usize,
-    events: usize,
-    statuses: usize,
-    marks: usize,
-) -> Bench {
-    let mut now = b;
+pub(crate) fn with_lengths(b: Bench, numbers: [u64; 16]) -> Bench {
+    let mut next = b;
     let lengths = Lengths {
-        roles,
-        events,
-        statuses,
-        marks,
+        roles: numbers[1],
+        events: numbers[2],
+        statuses: numbers[3],
+        marks: numbers[4],
     };
-    now.lengths = lengths;
-    now
+    next.lengths = lengths;
+    next
+}
+
+// The numbers: the first place and the last, each how manieth, then role, Event ID, status, mark and how much the Event ID rises each time.
+pub(crate) fn with_slots(b: Bench, numbers: [u64; 16]) -> Bench {
+    let mut next = b;
+    let mut event = numbers[5];
+    let mut i = 0;
+    while i < 65 {
+        let at = i;
+        i += 1;
+        if left_out(at as u64, numbers[1], numbers[2], numbers[3]) {
+            continue;
+        }
+        next.roles[at] = byte(numbers[4]);
+        next.events[at] = event;
+        next.statuses[at] = byte(numbers[6]);
+        next.marks[at] = byte(numbers[7]);
+        event = std::num::wrapping_add_u64(event, numbers[8]);
+    }
+    next
+}
+
+fn left_out(place: u64, first: u64, last: u64, stride: u64) -> bool {
+    if place < first {
+        return true;
+    }
+    if last < place {
+        return true;
+    }
+    if stride == 0 {
+        return true;
+    }
+    (place - first) % stride != 0
+}
+
+pub(crate) fn byte(n: u64) -> u8 {
+    (n % 256) as u8
 }

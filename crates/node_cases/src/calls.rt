@@ -1,79 +1,103 @@
-// A board that is started, announces, produces and has its statuses set.
+// The calls on a board: the lists are lent from locals.
 use crate::boards::Bench;
-use crate::boards::EVENT_A;
-use crate::boards::board;
-use crate::report::heading;
-use crate::steps::announce;
-use crate::steps::hear;
-use crate::steps::initialise;
-use crate::steps::produce;
-use crate::steps::set_status;
+use crate::boards::Lengths;
+use crate::report::told;
+use node::Answer;
+use node_rules::Call;
+use node_rules::Node;
 
-pub(crate) fn starting() -> Bench {
-    heading(b"Slots 0, 1 produce A, 2 consumes A, 3 produces B, 4, 5 automatic, 6, 7 consume C");
-    heading(b"Not Initialized: only a status can be set");
-    let mut b = board();
-    b = announce(b, 0, 16);
-    b = announce(b, 8, 16);
-    b = produce(b, 0, 16);
-    b = produce(b, 5, 16);
-    b = produce(b, 8, 16);
-    b = set_status(b, 7, 2);
-    b = set_status(b, 7, 3);
-    b = set_status(b, 8, 0);
-    heading(b"Initialise, and again: slots with an automatic event are marked, all others not");
-    b = initialise(b, 13);
-    b = initialise(b, 14);
-    b = announce(b, 0, 16);
-    b = announce(b, 7, 16);
-    b = initialise(b, 13);
-    initialise(b, 40)
+// A call with so many bytes of a message. The board comes back as the call left it.
+pub(crate) fn lent(b: Bench, call: Call, bytes: [u8; 512], length: u64, room: u64) -> Bench {
+    let node = b.node;
+    let lengths = b.lengths;
+    let roles = b.roles;
+    let events = b.events;
+    let statuses = b.statuses;
+    let marks = b.marks;
+    let end = (length % 513) as usize;
+    lend(
+        call,
+        &bytes[0..end],
+        room,
+        node,
+        lengths,
+        roles,
+        events,
+        statuses,
+        marks,
+    )
 }
 
-pub(crate) fn sending(started: Bench) -> Bench {
-    heading(b"Announce: every slot of the role and event is marked");
-    let mut b = started;
-    b = announce(b, 0, 15);
-    b = announce(b, 0, 16);
-    b = announce(b, 1, 17);
-    b = announce(b, 2, 16);
-    b = announce(b, 3, 16);
-    b = announce(b, 5, 16);
-    b = announce(b, 7, 16);
-    b = announce(b, 6, 16);
-    b = announce(b, 8, 16);
-    b = announce(b, 18_446_744_073_709_551_615, 16);
-    heading(b"Produce: only an Advertised producer");
-    b = produce(b, 1, 15);
-    b = produce(b, 1, 16);
-    b = produce(b, 2, 16);
-    b = produce(b, 8, 16);
-    b = initialise(b, 14);
-    b = produce(b, 1, 16);
-    b = produce(b, 2, 16);
-    b = produce(b, 5, 16);
-    b = announce(b, 2, 16);
-    b = produce(b, 0, 16);
-    b = announce(b, 1, 16);
-    b = produce(b, 0, 40);
-    produce(b, 3, 16)
+fn lend(
+    call: Call,
+    bytes: &[u8],
+    room: u64,
+    node: Node,
+    lengths: Lengths,
+    roles: [u8; 65],
+    events: [u64; 65],
+    old_statuses: [u8; 65],
+    old_marks: [u8; 65],
+) -> Bench {
+    let mut statuses = old_statuses;
+    let mut marks = old_marks;
+    let mut out = [0xEEu8; 1040];
+    let r = (lengths.roles % 66) as usize;
+    let e = (lengths.events % 66) as usize;
+    let s = (lengths.statuses % 66) as usize;
+    let m = (lengths.marks % 66) as usize;
+    let o = (room % 1041) as usize;
+    let node = step(
+        call,
+        node,
+        bytes,
+        &roles[0..r],
+        &events[0..e],
+        &mut statuses[0..s],
+        &mut marks[0..m],
+        &mut out[0..o],
+    );
+    Bench {
+        node,
+        lengths,
+        roles,
+        events,
+        statuses,
+        marks,
+    }
 }
 
-pub(crate) fn setting(started: Bench) {
-    heading(b"Set a status: it is told from then on, the lowest slot's where a message asks");
-    let mut b = started;
-    b = set_status(b, 0, 2);
-    b = announce(b, 0, 16);
-    b = set_status(b, 1, 0);
-    b = hear(b, 0x0914, EVENT_A, 16);
-    b = set_status(b, 0, 1);
-    b = hear(b, 0x0914, EVENT_A, 16);
-    b = set_status(b, 2, 1);
-    b = announce(b, 2, 16);
-    b = set_status(b, 2, 0);
-    b = announce(b, 2, 16);
-    b = set_status(b, 0, 3);
-    b = set_status(b, 0, 255);
-    b = set_status(b, 8, 0);
-    set_status(b, 8, 3);
+fn step(
+    call: Call,
+    node: Node,
+    bytes: &[u8],
+    roles: &[u8],
+    events: &[u64],
+    statuses: &mut [u8],
+    marks: &mut [u8],
+    out: &mut [u8],
+) -> Node {
+    let a = made(call, node, bytes, roles, events, statuses, marks, out);
+    told(a, out, marks, statuses);
+    a.node
+}
+
+// By the five public calls, so that each of them is tried.
+fn made(
+    call: Call,
+    node: Node,
+    bytes: &[u8],
+    roles: &[u8],
+    events: &[u64],
+    statuses: &mut [u8],
+    marks: &mut [u8],
+    out: &mut [u8],
+) -> Answer {
+    match call {
+        Call::Initialise => node::initialise(node, roles, events, statuses, marks, out),
+        Call::Announce(i) => node::announce(node, i, roles, events, statuses, marks, out),
+        Call::Produce(i) => node::produce(node, i, roles, events, statuses, marks, out),
+        Call::SetStatus(i, s) => node::set_status(node, i, s, roles, events, statuses, marks),
+        Call::Receive => node::receive(node, bytes, roles, events, statuses, marks, out),
+    }
 }
