@@ -84,6 +84,13 @@ start-taken ports r e = go (badPorts ports) refl
     go true f = let w : ⊥ = omega (arith, rw f at e) in absurd w
     go false f = (f, rw f)
 
+-- The port count stays what the box was started with.
+pub start-box : (ports r : ℕ) → start ports r .refusal ≡ 0 → (h : List Entry) → after (start ports r .next) h .ports ≡ ports
+start-box ports r s h =
+    let begun = start-taken ports r s in
+    let left = history-left (startOf ports r) (bounded-start ports r (begun .0)) h in
+    ap (λ (g : Gate). after g h .ports) (begun .1) ∙ ap (λ (x : Gate). x .ports) (left .as-left) ∙ left-box (startOf ports r) (accepted ports h) .0
+
 -- Where a report goes, of a port that is there and is not the one it came in by.
 pub report-goes : (g : Gate) (q p e : ℕ) (m : Message) → p < g .ports → (p ≡ q → ⊥) → Reports e m → goesTo g q m p ≡ wants g p e
 unfolding goesTo

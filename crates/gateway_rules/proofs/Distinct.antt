@@ -10,7 +10,7 @@ use Rattle.message.specs.declared.Message.{Message}
 use Rattle.gateway_rules.specs.declared.Line.{Line}
 use Rattle.gateway_rules.specs.State.{Gate, full, outOfBounds, startOf}
 use Rattle.basics.specs.Lists.{without}
-use Rattle.gateway_rules.specs.Step.{sameLine, has, ownedAt, start}
+use Rattle.gateway_rules.specs.Step.{sameLine, has, distinct, ownedAt, start}
 use Rattle.gateway_rules.specs.History.{Entry, after, Heard, accepted, leftBy}
 use Rattle.gateway_rules.proofs.Lists.{same-line, has-append, has-without}
 use Rattle.basics.proofs.Sinces.{by-end}
@@ -21,10 +21,6 @@ use Rattle.gateway_rules.proofs.Hearing.{history-left}
 use Rattle.gateway_rules.proofs.Demand3.{start-taken}
 
 -- ---- lines that are all different
-
-unfoldable pub distinct : List Line → Bool
-distinct [] = true
-distinct (l ∷ lines) = not (has lines l) && distinct lines
 
 same-turned : (a b : Line) → sameLine a b ≡ sameLine b a
 same-turned a b =

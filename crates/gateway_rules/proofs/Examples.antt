@@ -13,7 +13,7 @@ use Rattle.message.specs.Reading.{fieldsIn}
 use Rattle.message.specs.Saying.{saidBy}
 use Rattle.gateway_rules.specs.State.{Gate, outOfBounds, startOf}
 use Rattle.gateway_rules.specs.Step.{announce, taken, wants, goesTo, step}
-use Rattle.gateway_rules.specs.History.{Entry, Heard, Live, leftBy}
+use Rattle.gateway_rules.specs.History.{Entry, Heard, Live, leftBy, concerning}
 use Rattle.gateway_rules.proofs.Holding.{no-restart}
 use Rattle.basics.specs.Since.Never.{nothing, nor}
 
@@ -94,3 +94,17 @@ full-at-256 = (refl, refl)
 pub opens-at-257 : (length (leftBy (startOf 4 house) (announcements 257) .lines) ≡ 256) × (leftBy (startOf 4 house) (announcements 257) .marked 1 ≡ true)
 unfolding taken announce saidBy meaningOf sameBlock
 opens-at-257 = (refl, refl)
+
+-- ---- the same said in other bytes
+
+abbrev carrying : ℕ → ℕ → Heard
+carrying mti e = record { port = 1; message = record { mti = mti; source = board; destination = Absent; event = Present e } }
+
+abbrev restarting : ℕ → Heard
+restarting mti = record { port = 1; message = record { mti = mti; source = board; destination = Absent; event = Absent } }
+
+-- An event valid and invalid, the whole space as 0 and as all ones, and a restart in full and simple: sharing takes each pair for the same.
+pub same-words : concerning 1 (carrying 0x04C4 7 ∷ carrying 0x04A4 0 ∷ restarting 0x0100 ∷ [])
+    ≡ concerning 1 (carrying 0x04C5 7 ∷ carrying 0x04A4 0xFFFFFFFFFFFFFFFF ∷ restarting 0x0110 ∷ [])
+unfolding concerning saidBy meaningOf blockOf run bitsEqual
+same-words = refl

@@ -15,14 +15,10 @@ use Rattle.message.proofs.Exactly.{read-accepted}
 use Rattle.basics.proofs.Firsts.{first-passed, rest-passed}
 use Rattle.basics.proofs.Bools.{neither}
 use Rattle.gateway_rules.specs.State.{Gate, outOfBounds}
-use Rattle.gateway_rules.specs.Step.{taken, taking, refusing, step}
-use Rattle.gateway_rules.specs.History.{Entry, after, Heard, heardAt, accepted, leftBy}
+use Rattle.gateway_rules.specs.Step.{taken, taking, refusing, stepTests, step}
+use Rattle.gateway_rules.specs.History.{Entry, after, Heard, heardAt, heardOf, accepted, leftBy}
 use Rattle.gateway_rules.proofs.Changes.{change-of}
 use Rattle.gateway_rules.proofs.Bounds.{Bounded, bounded-in, bounded-taken, same-box}
-
--- What is heard of one entry.
-abbrev pub heardOf : ℕ → ℕ → List ℕ → List Heard
-heardOf ports q bytes = cond (ltb q ports) (heardAt q (readOf bytes)) []
 
 -- ---- leftBy in two parts
 
@@ -39,20 +35,27 @@ left-box g (s ∷ h) =
 
 -- ---- one entry
 
-by-number : (g : Gate) (q n : ℕ) (m : Message) → answered (taking g q) (refusing g) n m .next ≡ leftBy g (heardAt q (answered Read Refused n m))
-by-number g q zero m = refl
-by-number g q (suc n) m = refl
+-- What is heard goes by the number that the step answers: its message for 0, else nothing.
+pub heard-by-number : (g : Gate) (e : Entry) → outOfBounds g ≡ false
+    → heardOf (g .ports) e ≡ heardAt (e .port) (answered Read Refused (firstOf (stepTests g (e .port) (e .bytes))) (messageIn (e .bytes)))
+unfolding readOf
+heard-by-number g e i = rw i (go (ltb (e .port) (g .ports)) refl)
+  where
+    go : (t : Bool) → ltb (e .port) (g .ports) ≡ t
+        → cond t (heardAt (e .port) (answered Read Refused (firstOf (readTests (e .bytes))) (messageIn (e .bytes)))) []
+        ≡ heardAt (e .port) (answered Read Refused (cond (leb (g .ports) (e .port)) 8 (firstOf (readTests (e .bytes)))) (messageIn (e .bytes)))
+    go true f = rw (lt-leb (g .ports) (e .port) (ltb-true (e .port) (g .ports) f))
+    go false f = rw (le-leb (g .ports) (e .port) (ltb-false (e .port) (g .ports) f))
 
 -- A step of a state in bounds takes what is heard, and nothing else.
-pub step-heard : (g : Gate) (q : ℕ) (bytes : List ℕ) → outOfBounds g ≡ false → step g q bytes .next ≡ leftBy g (heardOf (g .ports) q bytes)
-unfolding step readOf
-step-heard g q bytes i = rw i (go (ltb q (g .ports)) refl)
+pub step-heard : (g : Gate) (e : Entry) → outOfBounds g ≡ false → step g (e .port) (e .bytes) .next ≡ leftBy g (heardOf (g .ports) e)
+unfolding step
+step-heard g e i = go (firstOf (stepTests g (e .port) (e .bytes))) ∙ ap (leftBy g) (sym (heard-by-number g e i))
   where
-    go : (t : Bool) → ltb q (g .ports) ≡ t
-        → answered (taking g q) (refusing g) (cond (leb (g .ports) q) 8 (firstOf (readTests bytes))) (messageIn bytes) .next
-        ≡ leftBy g (cond t (heardAt q (answered Read Refused (firstOf (readTests bytes)) (messageIn bytes))) [])
-    go true e = rw (lt-leb (g .ports) q (ltb-true q (g .ports) e)) (by-number g q (firstOf (readTests bytes)) (messageIn bytes))
-    go false e = rw (le-leb (g .ports) q (ltb-false q (g .ports) e))
+    go : (n : ℕ) → answered (taking g (e .port)) (refusing g) n (messageIn (e .bytes)) .next
+        ≡ leftBy g (heardAt (e .port) (answered Read Refused n (messageIn (e .bytes))))
+    go zero = refl
+    go (suc n) = refl
 
 -- A message that is read has a good source.
 pub read-source : (bytes : List ℕ) (m : Message) → readOf bytes ≡ Read m → badNode (m .source) ≡ false
@@ -62,13 +65,13 @@ read-source bytes m e =
     let nodes = first-passed (rest-passed (rest-passed (rest-passed (h .0)))) in
     ap (λ (x : Message). badNode (x .source)) (h .1) ∙ neither (badNode (messageIn bytes .source)) (badWherePresent (messageIn bytes .destination)) nodes .0
 
-pub heard-bounded : (g : Gate) (q : ℕ) (bytes : List ℕ) → Bounded g → Bounded (leftBy g (heardOf (g .ports) q bytes))
-heard-bounded g q bytes i = go (ltb q (g .ports)) refl (readOf bytes) refl
+pub heard-bounded : (g : Gate) (e : Entry) → Bounded g → Bounded (leftBy g (heardOf (g .ports) e))
+heard-bounded g e i = go (ltb (e .port) (g .ports)) refl (readOf (e .bytes)) refl
   where
-    go : (t : Bool) → ltb q (g .ports) ≡ t → (r : Reading) → readOf bytes ≡ r → Bounded (leftBy g (cond t (heardAt q r) []))
-    go true e (Read m) f = bounded-taken g q m i (ltb-true q (g .ports) e) (read-source bytes m f)
-    go true e (Refused n) f = i
-    go false e r f = i
+    go : (t : Bool) → ltb (e .port) (g .ports) ≡ t → (r : Reading) → readOf (e .bytes) ≡ r → Bounded (leftBy g (cond t (heardAt (e .port) r) []))
+    go true f (Read m) k = bounded-taken g (e .port) m i (ltb-true (e .port) (g .ports) f) (read-source (e .bytes) m k)
+    go true f (Refused n) k = i
+    go false f r k = i
 
 -- ---- every history
 
@@ -80,10 +83,10 @@ pub history-left : (g : Gate) → Bounded g → (h : List Entry) → Left g h
 unfolding accepted
 history-left g i [] = record { as-left = refl; bounded = i }
 history-left g i (e ∷ h) =
-    let heard = heardOf (g .ports) (e .port) (e .bytes) in
-    let one = step-heard g (e .port) (e .bytes) (bounded-in g i) in
+    let heard = heardOf (g .ports) e in
+    let one = step-heard g e (bounded-in g i) in
     let g′ = step g (e .port) (e .bytes) .next in
-    let i′ : Bounded g′ = subst Bounded (sym one) (heard-bounded g (e .port) (e .bytes) i) in
+    let i′ : Bounded g′ = subst Bounded (sym one) (heard-bounded g e i) in
     let rest = history-left g′ i′ h in
     let ports : g′ .ports ≡ g .ports = ap (λ (x : Gate). x .ports) one ∙ left-box g heard .0 in
     record {

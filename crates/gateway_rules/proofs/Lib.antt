@@ -8,6 +8,7 @@ pub mod Demand3
 pub mod Sending
 pub mod OwnLines
 pub mod Distinct
+pub mod Accepted
 pub mod Sharing
 pub mod Examples
 pub mod Reported

@@ -11,7 +11,7 @@ use Rattle.message.specs.Reading.{messageIn}
 use Rattle.basics.specs.Refusals.{firstOf, answered}
 use Rattle.gateway_rules.specs.declared.Line.{Line}
 use Rattle.gateway_rules.specs.State.{Gate}
-use Rattle.gateway_rules.specs.Step.{line, ownedAt, taking, refusing, stepTests, step}
+use Rattle.gateway_rules.specs.Step.{line, ofNode, ownedAt, taking, refusing, stepTests, step}
 use Rattle.basics.specs.Lists.{without}
 use Rattle.gateway_rules.proofs.Changes.{Change, change-of}
 use Rattle.gateway_rules.proofs.Changes.Change.{restarted, known, added, opened, passed}
@@ -62,10 +62,6 @@ only-own-lines g q bytes = go (firstOf (stepTests g q bytes))
         ≡ without (ownedAt q (messageIn bytes .source)) (g .lines)
     go zero = own-change g q (messageIn bytes) (change-of g q (messageIn bytes))
     go (suc n) = refl
-
--- The lines of a node.
-abbrev pub ofNode : ℕ → Line → Bool
-ofNode n l = eqb (l .node) n
 
 -- So are the lines of every other node.
 pub others-lines : (g : Gate) (q : ℕ) (bytes : List ℕ)

@@ -2,7 +2,7 @@
 use Prim.Native.Nat.{ℕ}
 use mathlib.Core.Path.{_≡_}
 use mathlib.Core.Bool.{Bool, true, false, cond, not, _&&_}
-use mathlib.Core.List.{List, [], _∷_, _++_}
+use mathlib.Core.List.{List, [], _∷_, _++_, map}
 use lib.Dec.{eqb, ltb}
 use lib.ListN.{length}
 use Rattle.basics.specs.Since.{Since}
@@ -13,7 +13,7 @@ use Rattle.message.specs.declared.Reading.{Reading}
 use Rattle.message.specs.declared.Reading.the-variants.{Read, Refused}
 use Rattle.message.specs.declared.Saying.{Saying}
 use Rattle.message.specs.declared.Saying.the-variants.{Report, Announcement, Restart, Inquiry, InquiryForAll, Learn, Nothing}
-use Rattle.message.specs.Reading.{readOf}
+use Rattle.message.specs.Reading.{messageIn, readOf}
 use Rattle.message.specs.Saying.{saidBy}
 use Rattle.gateway_rules.specs.State.{Gate, full}
 use Rattle.gateway_rules.specs.Step.{line, has, taken, step}
@@ -40,9 +40,16 @@ heardAt q (Read m) = record { port = q; message = m } ∷ []
 heardAt q (Refused n) = []
 
 -- A message is accepted where its port is below the port count and its bytes are read.
+abbrev pub heardOf : ℕ → Entry → List Heard
+heardOf ports e = cond (ltb (e .port) ports) (heardAt (e .port) (readOf (e .bytes))) []
+
 unfoldable pub accepted : ℕ → List Entry → List Heard
 accepted ports [] = []
-accepted ports (e ∷ h) = cond (ltb (e .port) ports) (heardAt (e .port) (readOf (e .bytes))) [] ++ accepted ports h
+accepted ports (e ∷ h) = heardOf ports e ++ accepted ports h
+
+-- The message that an entry's bytes hold, at its port.
+abbrev pub messageOf : Entry → Heard
+messageOf e = record { port = e .port; message = messageIn (e .bytes) }
 
 -- ---- what a message says
 
@@ -104,9 +111,17 @@ changing (InquiryForAll destination) = false
 changing (Learn e) = false
 changing Nothing = false
 
--- The accepted ones at port p, in the same order.
 abbrev pub concerns : ℕ → Heard → Bool
 concerns p s = eqb (s .port) p && changing (saidBy (s .message))
 
-unfoldable pub concerning : ℕ → List Heard → List Heard
-concerning p h = without (λ s. not (concerns p s)) h
+-- What a message says, and who says it: for an announcement the block, whichever MTI and number it was written with.
+pub record Word : Type 0 where
+  pub source : ℕ
+  pub saying : Saying
+
+abbrev pub wordOf : Heard → Word
+wordOf s = record { source = s .message .source; saying = saidBy (s .message) }
+
+-- What the accepted ones at port p say, in the same order.
+unfoldable pub concerning : ℕ → List Heard → List Word
+concerning p h = map wordOf (without (λ s. not (concerns p s)) h)

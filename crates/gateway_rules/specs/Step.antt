@@ -28,6 +28,15 @@ sameLine a b = eqb (a .port) (b .port) && (eqb (a .node) (b .node) && sameBlock 
 abbrev pub has : List Line → Line → Bool
 has lines l = any (sameLine l) lines
 
+-- Lines that are all different.
+unfoldable pub distinct : List Line → Bool
+distinct [] = true
+distinct (l ∷ lines) = not (has lines l) && distinct lines
+
+-- The lines of a node.
+abbrev pub ofNode : ℕ → Line → Bool
+ofNode n l = eqb (l .node) n
+
 -- The lines of a node at a port.
 abbrev pub ownedAt : ℕ → ℕ → Line → Bool
 ownedAt port node l = eqb (l .port) port && eqb (l .node) node
