@@ -6,8 +6,7 @@ use crate::node;
 use crate::proved::boards::{self, Node, NodeAnswer, Slot, SlotLists};
 use crate::proved::Block;
 
-use super::calls::{Faces, Left, Slots};
-use super::witness::Hex;
+use super::calls::{split_output, Faces, Left, Slots};
 
 /// The archive that is linked.
 pub struct Archive;
@@ -121,6 +120,7 @@ fn taken(slot: &Slot) -> node::Slot {
 /// What a call left.
 fn left(answer: NodeAnswer, slots: Vec<node::Slot>, output: Vec<u8>) -> Left {
     let Block { start, k } = answer.node.automatic;
+    let (written, rest) = split_output(output, answer.bytes);
     Left {
         refusal: answer.refusal,
         messages: answer.messages,
@@ -130,6 +130,7 @@ fn left(answer: NodeAnswer, slots: Vec<node::Slot>, output: Vec<u8>) -> Left {
         state: answer.node.state,
         automatic: (start, k.into()),
         slots: Slots(slots),
-        output: Hex(output),
+        written,
+        rest,
     }
 }

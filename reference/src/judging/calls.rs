@@ -36,7 +36,8 @@ pub struct Left {
     pub state: u8,
     pub automatic: (u64, u32),
     pub slots: Slots,
-    pub output: Hex,
+    pub written: Hex,
+    pub rest: Rest,
 }
 
 /// Slots, shown one by one only where an answer is shown in full.
@@ -61,11 +62,25 @@ impl Debug for Slots {
     }
 }
 
+/// The output past what was written, shown only there too.
+#[derive(PartialEq)]
+pub struct Rest(pub Vec<u8>);
+
+impl Debug for Rest {
+    fn fmt(&self, out: &mut Formatter) -> fmt::Result {
+        if !out.alternate() {
+            return write!(out, "..");
+        }
+        write!(out, "{:?}", Hex(self.0.clone()))
+    }
+}
+
 impl Left {
     /// What the reference leaves of a board and of an output.
     pub fn of_reference(after: &LentBoard, answer: &Answer, output: &[u8]) -> Left {
         let mut output = output.to_vec();
         output[..answer.written.len()].copy_from_slice(&answer.written);
+        let (written, rest) = split_output(output, answer.written.len());
         Left {
             refusal: answer.refusal,
             messages: answer.messages().count(),
@@ -75,9 +90,16 @@ impl Left {
             state: after.state,
             automatic: after.automatic,
             slots: Slots(after.slots.clone()),
-            output: Hex(output),
+            written,
+            rest,
         }
     }
+}
+
+/// An output in two: so many bytes that were written, if it has as many, and the rest.
+pub fn split_output(mut output: Vec<u8>, bytes: usize) -> (Hex, Rest) {
+    let rest = output.split_off(bytes.min(output.len()));
+    (Hex(output), Rest(rest))
 }
 
 /// One board and its calls.

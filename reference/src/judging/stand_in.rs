@@ -135,7 +135,7 @@ fn slot_is_a_byte(before: &LentBoard, call: &Call, left: &mut Left) {
 }
 
 fn a_byte_past_what_is_written(_: &LentBoard, _: &Call, left: &mut Left) {
-    left.output.0[left.bytes] ^= 1;
+    left.rest.0[0] ^= 1;
 }
 
 fn a_slot_past_what_is_lent(_: &LentBoard, _: &Call, left: &mut Left) {
