@@ -1,5 +1,6 @@
 //! Board files (BOARD-FILES; the calls are those of 01-scope, Node).
 
+use crate::call::Call;
 use crate::message::number;
 use crate::node::{Answer, Node, Slot, NOT_INITIALIZED, UNADVERTISED};
 use crate::range;
@@ -14,15 +15,6 @@ pub const MOST_CALLS: usize = 1_000;
 pub const MOST_ROOM: u64 = 2_048;
 /// What a file prints that cannot be taken (BOARD-FILES).
 pub const BAD_FILE: &[u8] = b"bad file\n";
-
-/// A call of the file (BOARD-FILES, the second table).
-enum Call {
-    Initialise { room: usize },
-    Announce { room: usize, slot: usize },
-    Produce { room: usize, slot: usize },
-    SetStatus { slot: usize, status: u8 },
-    Receive { room: usize, message: Vec<u8> },
-}
 
 /// The bytes of a file not yet taken.
 struct Rest<'a>(&'a [u8]);
@@ -65,14 +57,14 @@ pub fn board_text(file: &[u8]) -> Vec<u8> {
     };
     let mut text = String::new();
     for (place, call) in calls.iter().enumerate() {
-        let answer = make(&mut node, call);
+        let answer = call.make(&mut node);
         text.push_str(&line_of(place, &answer, &node));
     }
     text.into_bytes()
 }
 
 /// The board and the calls of a file, or nothing for a bad file (BOARD-FILES).
-fn parts_of(file: &[u8]) -> Option<(Node, Vec<Call>)> {
+pub fn parts_of(file: &[u8]) -> Option<(Node, Vec<Call>)> {
     if file.len() > MOST_BYTES {
         return None;
     }
@@ -139,17 +131,6 @@ fn call_of(rest: &mut Rest) -> Option<Call> {
             Some(Call::Receive { room, message })
         }
         _ => None,
-    }
-}
-
-/// Puts the board through one call (BOARD-FILES, the second table).
-fn make(node: &mut Node, call: &Call) -> Answer {
-    match call {
-        Call::Initialise { room } => node.initialise(*room),
-        Call::Announce { room, slot } => node.announce(*slot, *room),
-        Call::Produce { room, slot } => node.produce(*slot, *room),
-        Call::SetStatus { slot, status } => node.set_status(*slot, *status),
-        Call::Receive { room, message } => node.receive(message, *room),
     }
 }
 

@@ -5,10 +5,12 @@
 //! "BOARD-FILES" the page docs/BOARD-FILES.md, "TRIAL-CASES" docs/TRIAL-CASES.md, "CASE-FILES" docs/CASE-FILES.md.
 
 pub mod board;
+pub mod call;
 pub mod case_file;
 pub mod gateway;
 pub mod gateway_cases;
 pub mod judging;
+pub mod lent_board;
 pub mod message;
 pub mod node;
 pub mod node_cases;

@@ -440,23 +440,26 @@ mod tests {
         }
     }
 
-    /// 00-order, demand 2: what is read is written back to the same bytes, over every MTI and many lengths.
+    /// 00-order, demand 2: what is read is written back to the same bytes, over every MTI and many lengths, one of which every good MTI may have.
     #[test]
     fn every_mti_back() {
         for mti in 0..=u16::MAX {
-            for length in [0, 1, 5, 6, 7, 13, 14, 20, 21, 72, 73, 264, 265] {
+            let mut was_read = false;
+            for length in [0, 1, 5, 6, 7, 8, 13, 14, 20, 21, 72, 73, 264, 265] {
                 let mut given = bytes(mti, length);
                 if kind_of(mti) == Ok(Kind::InitializationComplete) && length == 6 {
                     given = bytes(mti, 0);
                     given.extend(node_id_bytes(SOURCE));
                 }
                 if let Ok(message) = read(&given) {
+                    was_read = true;
                     let content = content_of(&given).unwrap();
                     let room = given.len();
                     assert_eq!(write(&message, content, room), Ok(given.clone()));
                     assert_eq!(write(&message, content, room - 1), Err(6));
                 }
             }
+            assert_eq!(was_read, kind_of(mti).is_ok(), "{mti:04X}");
         }
     }
 

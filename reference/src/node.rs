@@ -48,10 +48,26 @@ pub struct Answer {
     pub matches: u64,
 }
 
+impl Answer {
+    /// A refusal, beside which every number is 0 (01-scope, Refusal numbers).
+    pub fn refused(refusal: u8) -> Answer {
+        Answer {
+            refusal,
+            written: Vec::new(),
+            matches: 0,
+        }
+    }
+
+    /// The messages written: one Initialization Complete, or others of 16 bytes each (01-scope, Messages; Node).
+    pub fn messages(&self) -> impl Iterator<Item = &[u8]> {
+        self.written.chunks(16)
+    }
+}
+
 /// The bytes written and the slots matched by an accepted call.
 type Accepted = (Vec<u8>, u64);
 
-/// An answer from what a call did (01-scope, Refusal numbers, "any other number answered ... is 0").
+/// An answer from what a call did (01-scope, Node).
 fn answer(done: Result<Accepted, u8>) -> Answer {
     match done {
         Ok((written, matches)) => Answer {
@@ -59,11 +75,7 @@ fn answer(done: Result<Accepted, u8>) -> Answer {
             written,
             matches,
         },
-        Err(refusal) => Answer {
-            refusal,
-            written: Vec::new(),
-            matches: 0,
-        },
+        Err(refusal) => Answer::refused(refusal),
     }
 }
 

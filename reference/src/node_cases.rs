@@ -1,6 +1,7 @@
 //! The case files of the board (CASE-FILES; the calls are those of 01-scope, Node).
 
 use crate::case_file::{places, text_of, Case, MOST_MESSAGE};
+use crate::lent_board::LentBoard;
 use crate::node::{Answer, Node, Slot};
 use crate::refusal;
 
@@ -13,16 +14,6 @@ const FILL: u8 = 0x07;
 /// The bytes of a printed line of output (CASE-FILES).
 const A_LINE: usize = 16;
 
-/// A record, and its slots as four lists of which each is lent to its own length (CASE-FILES).
-#[derive(Clone)]
-struct Bench {
-    id: u64,
-    state: u8,
-    automatic: (u64, u32),
-    slots: Vec<Slot>,
-    lengths: [usize; 4],
-}
-
 /// The text of a case file of the board (CASE-FILES).
 pub fn node_cases_text(file: &[u8]) -> Vec<u8> {
     let slot = Slot {
@@ -31,7 +22,7 @@ pub fn node_cases_text(file: &[u8]) -> Vec<u8> {
         status: 0,
         mark: 0,
     };
-    let mut bench = Bench {
+    let mut bench = LentBoard {
         id: 0,
         state: 0,
         automatic: (0, 0),
@@ -50,7 +41,7 @@ pub fn node_cases_text(file: &[u8]) -> Vec<u8> {
 }
 
 /// Lays out what a line says, nothing where it is a call (CASE-FILES).
-fn lay_out(bench: &mut Bench, case: &Case) -> Option<String> {
+fn lay_out(bench: &mut LentBoard, case: &Case) -> Option<String> {
     match (case.name.as_str(), &case.numbers[..], &case.message) {
         ("reco", &[id, state, start, k], None) => {
             bench.id = id;
@@ -79,90 +70,66 @@ fn lay_out(bench: &mut Bench, case: &Case) -> Option<String> {
 }
 
 /// Makes the call of a line, nothing where there is no such command (CASE-FILES).
-fn call(bench: &mut Bench, case: &Case) -> Option<String> {
+fn call(bench: &mut LentBoard, case: &Case) -> Option<String> {
     let within = |room: u64| (room % (MOST_ROOM + 1)) as usize;
     match (case.name.as_str(), &case.numbers[..], &case.message) {
-        ("init", &[room], None) => Some(bench.told(|node| node.initialise(within(room)))),
-        ("anno", &[slot, room], None) => {
-            Some(bench.told(|node| node.announce(slot as usize, within(room))))
-        }
-        ("prod", &[slot, room], None) => {
-            Some(bench.told(|node| node.produce(slot as usize, within(room))))
-        }
-        ("set", &[slot, status], None) => {
-            Some(bench.told(|node| node.set_status(slot as usize, status as u8)))
-        }
+        ("init", &[room], None) => Some(told(bench, |node| node.initialise(within(room)))),
+        ("anno", &[slot, room], None) => Some(told(bench, |node| {
+            node.announce(slot as usize, within(room))
+        })),
+        ("prod", &[slot, room], None) => Some(told(bench, |node| {
+            node.produce(slot as usize, within(room))
+        })),
+        ("set", &[slot, status], None) => Some(told(bench, |node| {
+            node.set_status(slot as usize, status as u8)
+        })),
         ("rece", &[room], Some(message)) => {
-            Some(bench.told(|node| node.receive(message, within(room))))
+            Some(told(bench, |node| node.receive(message, within(room))))
         }
         ("long", &[room, more], Some(message)) => {
             let most = MOST_MESSAGE + 1;
             let mut message = message.clone();
             let length = (message.len() + (more % most as u64) as usize) % most;
             message.resize(length, FILL);
-            Some(bench.told(|node| node.receive(&message, within(room))))
+            Some(told(bench, |node| node.receive(&message, within(room))))
         }
         _ => None,
     }
 }
 
-impl Bench {
-    /// Makes a call on what is lent and prints what came of it (CASE-FILES).
-    fn told(&mut self, make: impl FnOnce(&mut Node) -> Answer) -> String {
-        let answer = self.made(make);
-        let said = if answer.refusal == refusal::NONE {
-            "accepted".to_string()
-        } else {
-            format!("refused {}", answer.refusal)
-        };
-        let written = answer.written.len();
-        let (start, k) = self.automatic;
-        let [_, _, statuses, marks] = self.lengths;
-        let mut text = format!(
+/// Makes a call on what is lent and prints what came of it (CASE-FILES).
+fn told(bench: &mut LentBoard, make: impl FnOnce(&mut Node) -> Answer) -> String {
+    let answer = bench.call(make);
+    let said = if answer.refusal == refusal::NONE {
+        "accepted".to_string()
+    } else {
+        format!("refused {}", answer.refusal)
+    };
+    let written = answer.written.len();
+    let (start, k) = bench.automatic;
+    let [_, _, statuses, marks] = bench.lengths;
+    let mut text = format!(
             "  {said}; messages {:x}; bytes {written:x}; matches {:x}; record {:012x} {:x} {start:016x} {k:x}\n",
-            written.div_ceil(A_LINE),
+            answer.messages().count(),
             answer.matches,
-            self.id,
-            self.state
+            bench.id,
+            bench.state
         );
-        text.push_str("  marks ");
-        for slot in &self.slots[..marks] {
-            text.push_str(&format!("{:x}", slot.mark));
-        }
-        text.push_str("; statuses ");
-        for slot in &self.slots[..statuses] {
-            text.push_str(&format!("{:x}", slot.status));
-        }
-        for line in answer.written.chunks(A_LINE) {
-            text.push_str("\n  ");
-            for byte in line {
-                text.push_str(&format!("{byte:02x}"));
-            }
-        }
-        text + "\n  rest kept\n"
+    text.push_str("  marks ");
+    for slot in &bench.slots[..marks] {
+        text.push_str(&format!("{:x}", slot.mark));
     }
-
-    /// The call on a node with the slots lent; lists of unequal length are refusal 7 (01-scope, Node, "Out of bounds").
-    fn made(&mut self, make: impl FnOnce(&mut Node) -> Answer) -> Answer {
-        let count = self.lengths[0];
-        if self.lengths != [count; 4] {
-            return Answer {
-                refusal: refusal::BOUNDS,
-                written: Vec::new(),
-                matches: 0,
-            };
-        }
-        let mut node = Node {
-            id: self.id,
-            state: self.state,
-            automatic: self.automatic,
-            slots: self.slots[..count].to_vec(),
-        };
-        let answer = make(&mut node);
-        (self.id, self.state, self.automatic) = (node.id, node.state, node.automatic);
-        self.slots[..count].copy_from_slice(&node.slots);
-        answer
+    text.push_str("; statuses ");
+    for slot in &bench.slots[..statuses] {
+        text.push_str(&format!("{:x}", slot.status));
     }
+    for line in answer.written.chunks(A_LINE) {
+        text.push_str("\n  ");
+        for byte in line {
+            text.push_str(&format!("{byte:02x}"));
+        }
+    }
+    text + "\n  rest kept\n"
 }
 
 #[cfg(test)]

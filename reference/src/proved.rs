@@ -1,6 +1,8 @@
 //! The proved functions, linked from libc_face.a. `include/hrislanoth.h` says what they answer; the layouts here are that header's.
 #![allow(unsafe_code)]
 
+pub mod boards;
+
 use crate::gateway;
 
 /// The places of a box's table.

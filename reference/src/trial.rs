@@ -15,9 +15,9 @@ pub const MOST_ENTRIES: usize = 1_000;
 pub const BAD_FILE: &[u8] = b"bad file\n";
 
 /// One entry: the port and the body (01-scope, Trial program).
-struct Entry {
-    port: u32,
-    body: Vec<u8>,
+pub struct Entry {
+    pub port: u32,
+    pub body: Vec<u8>,
 }
 
 /// The text of a trial file (01-scope, Trial program).
@@ -34,7 +34,7 @@ pub fn trial_text(file: &[u8]) -> Vec<u8> {
 }
 
 /// The entries of a file, or nothing for a bad file (01-scope, Trial program, the contents table).
-fn entries_of(file: &[u8]) -> Option<Vec<Entry>> {
+pub fn entries_of(file: &[u8]) -> Option<Vec<Entry>> {
     if file.len() > MOST_BYTES || file.len() < 2 {
         return None;
     }

@@ -1,20 +1,25 @@
-//! The proved functions, called in the archive with random inputs of five sorts.
+//! The proved functions, called in the archive with random inputs of every sort.
 
 use std::process::ExitCode;
 
-use super::command::{self, Judge, Options};
+use super::archive_boards::Archive;
+use super::command::{self, Amounts, Judge, Options};
 use super::counts::{self, Column, Columns};
 use super::random::Dice;
+use super::rows::Row;
 use super::sort::Sort;
 use super::witness::Witness;
-use super::{boards, boxes, messages, ranges, trials, verdict};
+use super::{boards, boxes, calls, messages, ranges, trials, verdict};
 
 /// The judge of the archive.
 const JUDGE: Judge = Judge {
     name: "./judge",
     sorts: &Sort::ALL,
-    files: 2_000,
-    small: 50_000,
+    amounts: Amounts {
+        files: 2_000,
+        small: 50_000,
+    },
+    without: &[],
 };
 
 /// Does what the command line asks for.
@@ -37,26 +42,26 @@ fn run_all(options: &Options) -> ExitCode {
     let mut differences = Vec::new();
     for sort in Sort::ALL {
         let column = &mut columns[sort as usize];
-        for index in 0..options.inputs_of(sort) {
+        for index in 0..options.amounts.of(sort) {
             if differs(options.seed, sort, index, column) {
                 differences.push((sort, index));
             }
         }
     }
-    counts::print_table(&columns);
-    verdict::print(&JUDGE, options.seed, &columns, &differences)
+    counts::print_table(&JUDGE, &columns);
+    verdict::print(&JUDGE, options, &columns, &differences)
 }
 
 /// Whether the answers to one input differ.
 fn differs(seed: u64, sort: Sort, index: u64, column: &mut Column) -> bool {
     let mut witness = Witness::new(column, false);
     judge(seed, sort, index, &mut witness);
-    witness.differed
+    !witness.agreed()
 }
 
 /// Makes one input and compares the answers.
 fn judge(seed: u64, sort: Sort, index: u64, witness: &mut Witness) {
-    witness.column.inputs += 1;
+    witness.column.saw(Row::Inputs);
     let mut dice = Dice::of_input(seed, sort as u64, index);
     match sort {
         Sort::Range => ranges::judge(&mut dice, witness),
@@ -64,5 +69,6 @@ fn judge(seed: u64, sort: Sort, index: u64, witness: &mut Witness) {
         Sort::Box => boxes::judge(&mut dice, witness),
         Sort::Trial => trials::judge(&mut dice, witness),
         Sort::Board => boards::judge(&mut dice, witness),
+        Sort::Calls => calls::judge(&mut dice, witness, &Archive),
     }
 }

@@ -1,29 +1,30 @@
 //! Makes board files: a board, mostly one that is in bounds, and calls.
 
 use crate::board::{MOST_BYTES, MOST_CALLS, MOST_ROOM, MOST_SLOTS};
+use crate::call::Call;
 
-use super::parts::{any_mti, bytes_damaged_at_times, change_a_byte, Parts};
+use super::board_calls::Caller;
+use super::parts::change_a_byte;
 use super::random::Dice;
-use super::world::{doubtful_node, good_node, Area, World};
-
-/// The bytes of a reply, and of an Initialization Complete.
-const REPLY: usize = 16;
-const COMPLETE: usize = 14;
+use super::world::Area;
 
 /// A file that is being made.
 struct Maker<'a> {
     dice: &'a mut Dice,
-    world: World,
-    id: u64,
-    slots: usize,
+    caller: Caller,
     file: Vec<u8>,
 }
 
 /// A file, mostly valid.
 pub fn any_file(dice: &mut Dice) -> Vec<u8> {
     let automatic = Area::any_automatic(dice);
-    let mut maker = Maker::new(dice, automatic);
-    maker.add_board(automatic);
+    let slots = any_slot_count(dice);
+    let mut maker = Maker {
+        caller: Caller::new(dice, automatic),
+        dice,
+        file: Vec::new(),
+    };
+    maker.add_board(automatic, slots);
     maker.add_calls();
     if maker.dice.chance(12) {
         maker.damage();
@@ -55,48 +56,24 @@ fn any_call_count(dice: &mut Dice) -> usize {
     }
 }
 
-impl<'a> Maker<'a> {
-    /// An empty file; the board's own Node ID is one of the world's.
-    fn new(dice: &'a mut Dice, automatic: Area) -> Maker<'a> {
-        let slots = any_slot_count(dice);
-        let events = dice.pick(&[1, 3, 6, 40, 300]);
-        let mut world = World::new(dice, 2, events, automatic);
-        let id = if dice.chance(8) {
-            doubtful_node(dice)
-        } else {
-            good_node(dice)
-        };
-        world.nodes.push(id);
-        Maker {
-            dice,
-            world,
-            id,
-            slots,
-            file: Vec::new(),
-        }
-    }
-
+impl Maker<'_> {
     /// The board, one of its slots out of bounds at times.
-    fn add_board(&mut self, automatic: Area) {
-        self.file.extend(self.id.to_be_bytes());
+    fn add_board(&mut self, automatic: Area, slots: usize) {
+        self.file.extend(self.caller.id.to_be_bytes());
         self.file.extend(automatic.number.to_be_bytes());
-        self.file.push(self.slots as u8);
+        self.file.push(slots as u8);
         let all_different = self.dice.chance(40);
-        for place in 0..self.slots {
-            self.add_slot(place, all_different);
+        for _ in 0..slots {
+            self.add_slot(all_different);
         }
-        if self.slots > 0 && self.dice.chance(6) {
-            self.spoil_a_slot();
+        if slots > 0 && self.dice.chance(6) {
+            self.spoil_a_slot(slots);
         }
     }
 
-    /// A slot; where all are to be different, its event counts up.
-    fn add_slot(&mut self, place: usize, all_different: bool) {
-        let event = if all_different {
-            self.world.events[0].wrapping_add(place as u64)
-        } else {
-            self.world.event(self.dice)
-        };
+    /// A slot.
+    fn add_slot(&mut self, all_different: bool) {
+        let event = self.caller.add_event(self.dice, all_different);
         let role = self.dice.below(2) as u8;
         let status = self.dice.below(3) as u8;
         self.file.push(role);
@@ -105,8 +82,8 @@ impl<'a> Maker<'a> {
     }
 
     /// A role or a status that is none, in one slot.
-    fn spoil_a_slot(&mut self) {
-        let slot = 17 + 10 * self.dice.between(0, self.slots - 1);
+    fn spoil_a_slot(&mut self, slots: usize) {
+        let slot = 17 + 10 * self.dice.between(0, slots - 1);
         if self.dice.chance(50) {
             self.file[slot] = self.dice.pick(&[2, 3, 255]);
         } else {
@@ -114,113 +91,12 @@ impl<'a> Maker<'a> {
         }
     }
 
-    /// The calls, mostly with an initialisation first.
+    /// The calls.
     fn add_calls(&mut self) {
         let count = any_call_count(self.dice);
-        for place in 0..count {
-            if place == 0 && self.dice.chance(80) {
-                self.add_initialise();
-            } else {
-                self.add_call();
-            }
+        for call in self.caller.calls(self.dice, count) {
+            self.file.extend(bytes_of(&call));
         }
-    }
-
-    /// Any call.
-    fn add_call(&mut self) {
-        match self.dice.weighted(&[4, 20, 25, 15, 36]) {
-            0 => self.add_initialise(),
-            1 => self.add_call_of_slot(2),
-            2 => self.add_call_of_slot(3),
-            3 => self.add_set_status(),
-            _ => self.add_receive(),
-        }
-    }
-
-    /// An initialisation.
-    fn add_initialise(&mut self) {
-        self.file.push(1);
-        self.add_room(COMPLETE);
-    }
-
-    /// An announcement of a slot, or a report from it.
-    fn add_call_of_slot(&mut self, call: u8) {
-        self.file.push(call);
-        self.add_room(REPLY);
-        self.add_slot_number();
-    }
-
-    /// A status set, at times one that is none.
-    fn add_set_status(&mut self) {
-        self.file.push(4);
-        self.add_slot_number();
-        let status = self.dice.pick(&[0, 0, 0, 1, 1, 1, 2, 2, 2, 3, 255]);
-        self.file.push(status);
-    }
-
-    /// A message received.
-    fn add_receive(&mut self) {
-        let parts = self.message();
-        let replies = match parts.mti {
-            0x0970 | 0x0968 => self.dice.pick(&[self.slots.min(64), 1, 2, 3]),
-            _ => 1,
-        };
-        let bytes = bytes_damaged_at_times(self.dice, parts, 12);
-        self.file.push(5);
-        self.add_room(REPLY * replies);
-        self.file.extend((bytes.len() as u16).to_be_bytes());
-        self.file.extend(bytes);
-    }
-
-    /// A message, mostly one that a board answers.
-    fn message(&mut self) -> Parts {
-        let mti = match self.dice.weighted(&[25, 35, 8, 12, 5, 15]) {
-            0 => self.dice.pick(&[0x05B4, 0x05B4, 0x0F14]),
-            1 => self.dice.pick(&[0x08F4, 0x0914]),
-            2 => 0x0970,
-            3 => 0x0968,
-            4 => 0x0100,
-            _ => any_mti(self.dice),
-        };
-        let mut parts = Parts::of_mti(self.dice, &self.world, mti);
-        if parts.event.is_some() && self.slots > 0 && self.dice.chance(60) {
-            parts.event = Some(self.event_of_a_slot());
-        }
-        if parts.destination.is_some() && self.dice.chance(50) {
-            parts.destination = Some(self.id);
-        }
-        parts
-    }
-
-    /// The event of one of the slots as laid out.
-    fn event_of_a_slot(&mut self) -> u64 {
-        let event = 17 + 10 * self.dice.between(0, self.slots - 1) + 1;
-        let bytes = self.file[event..event + 8].iter();
-        bytes.fold(0, |number, byte| number << 8 | u64::from(*byte))
-    }
-
-    /// A slot that is there, or at times one that is not.
-    fn add_slot_number(&mut self) {
-        let slot = if self.slots > 0 && self.dice.chance(92) {
-            self.dice.between(0, self.slots - 1)
-        } else {
-            self.dice.pick(&[self.slots, self.slots + 1, 64, 255])
-        };
-        self.file.push(slot as u8);
-    }
-
-    /// Room for so many bytes: mostly enough, at times one short or exact.
-    fn add_room(&mut self, needed: usize) {
-        let most = MOST_ROOM as usize;
-        let room = match self.dice.below(12) {
-            0 => needed.saturating_sub(1),
-            1 => needed,
-            2 => needed + 1,
-            3 => self.dice.between(0, most),
-            4 => self.dice.pick(&[0, 1, REPLY]),
-            _ => most,
-        };
-        self.file.extend((room as u16).to_be_bytes());
     }
 
     /// Makes a bad file of it, or one that is hardly good.
@@ -259,5 +135,20 @@ impl<'a> Maker<'a> {
         };
         self.file.extend((length as u16).to_be_bytes());
         self.file.resize(size, 0x5A);
+    }
+}
+
+/// The bytes of a call (BOARD-FILES, the second table).
+fn bytes_of(call: &Call) -> Vec<u8> {
+    let [high, low] = (call.room() as u16).to_be_bytes();
+    match call {
+        Call::Initialise { .. } => vec![1, high, low],
+        Call::Announce { slot, .. } => vec![2, high, low, *slot as u8],
+        Call::Produce { slot, .. } => vec![3, high, low, *slot as u8],
+        Call::SetStatus { slot, status } => vec![4, *slot as u8, *status],
+        Call::Receive { message, .. } => {
+            let length = (message.len() as u16).to_be_bytes();
+            [&[5, high, low], &length[..], message].concat()
+        }
     }
 }

@@ -6,6 +6,7 @@ use crate::proved;
 use super::board_files::any_file;
 use super::observed;
 use super::random::Dice;
+use super::rows::Row;
 use super::texts::TextAnswer;
 use super::witness::{Hex, Text, Witness};
 
@@ -21,12 +22,12 @@ pub fn judge(dice: &mut Dice, witness: &mut Witness) {
     let file = any_file(dice);
     witness.show(|| format!("board file: {:?}", Hex(file.clone())));
     let text = board_text(&file);
-    observed::board_file(witness.column, &file, &text);
+    observed::board_file(witness.column, &file);
     if dice.chance(75) {
         compare(witness, &file, &text, 0, text.len() + SLACK);
         return;
     }
-    witness.column.short_texts += 1;
+    witness.column.saw(Row::TextInParts);
     compare_parts(dice, witness, &file, &text);
     let beyond = dice.pick(&[text.len(), text.len() + 1, usize::MAX]);
     compare(witness, &file, &text, beyond, SLACK);

@@ -6,12 +6,13 @@ use std::fmt::{self, Debug, Formatter};
 use crate::gateway::{self, Line};
 use crate::proved::{self, Block, Gateway, Head, PLACES};
 
-use super::counts::WAY_COUNT;
+use super::functions::Function;
 use super::histories::{any_history, history_in, Arrival};
 use super::laid_out::{any_numbers, Layout};
 use super::lengths;
 use super::observed;
 use super::random::Dice;
+use super::rows::{Row, BOX_WAY_COUNT};
 use super::witness::Witness;
 use super::world::{Area, World};
 
@@ -108,9 +109,9 @@ fn judge_out_of_bounds(dice: &mut Dice, witness: &mut Witness) {
     let world = World::new(dice, 3, 40, automatic);
     let mut layout = Layout::in_bounds(dice, &world, automatic);
     let arrivals = history_in(dice, layout.ports, world);
-    let way = dice.between(0, WAY_COUNT - 1);
+    let way = dice.between(0, BOX_WAY_COUNT - 1);
     layout.spoil(dice, way);
-    witness.column.ways[way] += 1;
+    witness.column.saw(Row::BoxWay(way));
     let boxes = Boxes::of_layout(dice, &layout);
     follow(dice, witness, boxes, &arrivals[..arrivals.len().min(4)]);
 }
@@ -119,7 +120,7 @@ fn judge_out_of_bounds(dice: &mut Dice, witness: &mut Witness) {
 fn started(witness: &mut Witness, ports: u8, number: u64) -> Option<Boxes> {
     let answer = proved::start(ports, number);
     let (reference, refusal) = gateway::Gateway::start(u32::from(ports), number);
-    witness.column.saw_answer(refusal);
+    witness.column.saw_answer(Function::Start, refusal);
     let boxes = Boxes {
         by_value: answer.gateway,
         in_place: answer.gateway,

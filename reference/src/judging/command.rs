@@ -3,38 +3,52 @@
 use std::process::ExitCode;
 
 use super::output::say;
+use super::rows::Row;
 use super::sort::Sort;
 
 /// What `--help` prints.
 const HELP: &str = include_str!("help.txt");
 
-/// One of the two judges: how it is called, its sorts of input, and how many there are where the line does not say; `small` is 0 where it has
-/// neither messages nor ranges.
+/// How many inputs there are.
+#[derive(Clone, Copy, Debug, PartialEq)]
+pub struct Amounts {
+    pub files: u64,
+    /// 0 for a judge that has neither messages nor ranges.
+    pub small: u64,
+}
+
+impl Amounts {
+    /// How many inputs of a sort.
+    pub fn of(self, sort: Sort) -> u64 {
+        match sort {
+            Sort::Range | Sort::Message => self.small,
+            Sort::Box | Sort::Trial | Sort::Board | Sort::Calls => self.files,
+        }
+    }
+}
+
+/// One of the two judges: how it is called, its sorts of input, how many there are where the line does not say, and the rows that it has no way to reach.
 pub struct Judge {
     pub name: &'static str,
     pub sorts: &'static [Sort],
-    pub files: u64,
-    pub small: u64,
+    pub amounts: Amounts,
+    pub without: &'static [Row],
+}
+
+impl Judge {
+    /// Whether its inputs of a sort can reach a row.
+    pub fn can_reach(&self, row: Row, sort: Sort) -> bool {
+        row.sorts().contains(&sort) && !self.without.contains(&row)
+    }
 }
 
 /// What the command line asks for.
 #[derive(Debug, PartialEq)]
 pub struct Options {
     pub seed: u64,
-    pub files: u64,
-    pub small: u64,
+    pub amounts: Amounts,
     pub only: Option<(Sort, u64)>,
     pub help: bool,
-}
-
-impl Options {
-    /// How many inputs of a sort are run.
-    pub fn inputs_of(&self, sort: Sort) -> u64 {
-        match sort {
-            Sort::Range | Sort::Message => self.small,
-            Sort::Box | Sort::Trial | Sort::Board => self.files,
-        }
-    }
 }
 
 /// The words of the command line.
@@ -64,8 +78,7 @@ pub fn asked(judge: &Judge, words: &[String]) -> Result<Options, ExitCode> {
 fn options_of(judge: &Judge, words: &[String]) -> Result<Options, String> {
     let mut options = Options {
         seed: 1,
-        files: judge.files,
-        small: judge.small,
+        amounts: judge.amounts,
         only: None,
         help: false,
     };
@@ -74,8 +87,10 @@ fn options_of(judge: &Judge, words: &[String]) -> Result<Options, String> {
         match word.as_str() {
             "--help" => options.help = true,
             "--seed" => options.seed = number(word, words.next())?,
-            "--files" => options.files = number(word, words.next())?,
-            "--small" if judge.small > 0 => options.small = number(word, words.next())?,
+            "--files" => options.amounts.files = number(word, words.next())?,
+            "--small" if judge.amounts.small > 0 => {
+                options.amounts.small = number(word, words.next())?;
+            }
             "--only" => options.only = Some(input(judge, words.next())?),
             _ => return Err(format!("`{word}` is no option")),
         }
@@ -108,14 +123,20 @@ mod tests {
     const ALL: Judge = Judge {
         name: "all",
         sorts: &Sort::ALL,
-        files: 2_000,
-        small: 50_000,
+        amounts: Amounts {
+            files: 2_000,
+            small: 50_000,
+        },
+        without: &[],
     };
     const FILES_ONLY: Judge = Judge {
         name: "files only",
         sorts: &[Sort::Trial, Sort::Board],
-        files: 30,
-        small: 0,
+        amounts: Amounts {
+            files: 30,
+            small: 0,
+        },
+        without: &[],
     };
 
     fn options(judge: &Judge, line: &str) -> Result<Options, String> {
@@ -126,14 +147,14 @@ mod tests {
     #[test]
     fn good_lines() {
         let defaults = options(&ALL, "").unwrap();
-        assert_eq!((defaults.seed, defaults.files), (1, 2_000));
-        assert_eq!((defaults.small, defaults.only), (50_000, None));
+        assert_eq!((defaults.seed, defaults.amounts), (1, ALL.amounts));
+        assert_eq!(defaults.only, None);
         let all = options(&ALL, "--seed 7 --files 3 --small 4 --only box:9").unwrap();
-        assert_eq!((all.seed, all.files, all.small), (7, 3, 4));
+        assert_eq!((all.seed, all.amounts), (7, Amounts { files: 3, small: 4 }));
         assert_eq!(all.only, Some((Sort::Box, 9)));
         assert!(options(&ALL, "--help").unwrap().help);
         let files = options(&FILES_ONLY, "--only board:9").unwrap();
-        assert_eq!((files.files, files.small), (30, 0));
+        assert_eq!(files.amounts, FILES_ONLY.amounts);
         assert_eq!(files.only, Some((Sort::Board, 9)));
     }
 

@@ -8,7 +8,7 @@ use crate::proved::{Block, Gateway, Head, PLACES};
 use super::histories::Arrival;
 use super::parts::Parts;
 use super::random::Dice;
-use super::world::{low_bits, Area, World, HIGHEST_NODE};
+use super::world::{crooked_block, endless_block, low_bits, Area, World, HIGHEST_NODE};
 
 /// A state as both sides can take it; more lines than the table has places are there for the reference's sake.
 pub struct Layout {
@@ -27,18 +27,6 @@ fn any_block(dice: &mut Dice, world: &World) -> (u64, u32) {
         .pick(&[0, 0, 1, 2, 8, 16, 48, 63, 64])
         .min(world.longest_run) as u32;
     (event & !low_bits(k), k)
-}
-
-/// A start that is no multiple of 2^k, and the k.
-fn crooked_block(dice: &mut Dice) -> (u64, u32) {
-    let k = dice.between(1, 64) as u32;
-    let start = dice.number() & !low_bits(k) | 1 << dice.below(u64::from(k));
-    (start, k)
-}
-
-/// A k that is none, beside the start that every k allows.
-fn endless_block(dice: &mut Dice) -> (u64, u32) {
-    (0, dice.pick(&[65, 66, 128, 255]))
 }
 
 /// A line in bounds.

@@ -5,9 +5,10 @@ use std::fmt::{self, Debug, Formatter};
 use crate::proved::{self, Gateway, Head, LentAnswer, Lists, PLACES};
 use crate::refusal;
 
-use super::counts::LENGTH_COUNT;
+use super::functions::Function;
 use super::histories::Arrival;
 use super::random::Dice;
+use super::rows::{Row, LENGTH_COUNT};
 use super::witness::Witness;
 
 const TOO_SHORT: [usize; 5] = [0, 1, 128, 254, 255];
@@ -35,8 +36,10 @@ struct Answer {
 pub fn judge(dice: &mut Dice, witness: &mut Witness, gateway: &Gateway, arrival: &Arrival) {
     let way = dice.between(0, LENGTH_COUNT - 1);
     let lengths = lengths_of(dice, way);
-    witness.column.lengths[way] += 1;
-    witness.column.saw_answer(refusal::BOUNDS);
+    witness.column.saw(Row::ListLength(way));
+    witness
+        .column
+        .saw_answer(Function::Receive, refusal::BOUNDS);
     let lists = Owned::of(gateway);
     let expected = LentAnswer {
         refusal: refusal::BOUNDS,

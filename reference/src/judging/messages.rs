@@ -4,8 +4,10 @@ use crate::message::{self, Message};
 use crate::proved::{self, Reading};
 use crate::refusal;
 
+use super::functions::Function;
 use super::parts::{any_mti, bytes_damaged_at_times, Parts};
 use super::random::Dice;
+use super::rows::Row;
 use super::witness::{Hex, Witness};
 use super::world::{Area, World};
 
@@ -71,7 +73,7 @@ fn judge_bytes(dice: &mut Dice, witness: &mut Witness, bytes: &[u8]) {
         return;
     }
     if let Ok(read) = message::read(bytes) {
-        witness.column.written_back += 1;
+        witness.column.saw(Row::WrittenBack);
         write_back(dice, witness, &read, bytes);
     }
 }
@@ -163,7 +165,7 @@ fn reference_message(parts: &Parts) -> Message {
 /// Reads bytes on both sides; whether they agree.
 fn compare_read(witness: &mut Witness, bytes: &[u8]) -> bool {
     let reference = answer_of_reference(bytes);
-    witness.column.saw_answer(reference.refusal);
+    witness.column.saw_answer(Function::Read, reference.refusal);
     let asked = || format!("read {:?}", Hex(bytes.to_vec()));
     witness.compare(asked, &answer_of_proved(&proved::read(bytes)), &reference)
 }
@@ -239,7 +241,9 @@ fn compare_write(
     written: &Result<Vec<u8>, u8>,
 ) -> bool {
     let reference = write_answer_of_reference(output, written);
-    witness.column.saw_answer(reference.refusal);
+    witness
+        .column
+        .saw_answer(Function::Write, reference.refusal);
     let mut bytes = output.before();
     let writing = proved::write(given, content, &mut bytes[..output.room]);
     let proved = WriteAnswer {

@@ -3,15 +3,21 @@
 
 #[cfg(feature = "proved")]
 pub mod archive;
+#[cfg(feature = "proved")]
+mod archive_boards;
+pub mod board_calls;
 pub mod board_files;
 #[cfg(feature = "proved")]
 mod boards;
 #[cfg(feature = "proved")]
 mod boxes;
+pub mod calls;
 pub mod children;
 pub mod command;
 pub mod counts;
+pub mod functions;
 pub mod histories;
+pub mod laid_boards;
 #[cfg(feature = "proved")]
 mod laid_out;
 #[cfg(feature = "proved")]
@@ -25,9 +31,12 @@ pub mod programs;
 pub mod random;
 #[cfg(feature = "proved")]
 mod ranges;
+pub mod reached;
+pub mod rows;
 pub mod sort;
-#[cfg(feature = "proved")]
-mod texts;
+#[cfg(test)]
+mod stand_in;
+pub mod texts;
 pub mod trial_files;
 #[cfg(feature = "proved")]
 mod trials;

@@ -6,9 +6,10 @@ use crate::board::board_text;
 use crate::trial::trial_text;
 
 use super::children::{at_once, Printed, Program};
-use super::command::{self, Judge, Options};
+use super::command::{self, Amounts, Judge, Options};
 use super::counts::{self, Column, Columns};
 use super::random::Dice;
+use super::rows::Row;
 use super::sort::Sort;
 use super::witness::{Hex, Witness};
 use super::{board_files, observed, trial_files, verdict};
@@ -17,8 +18,12 @@ use super::{board_files, observed, trial_files, verdict};
 const JUDGE: Judge = Judge {
     name: "./judge --programs",
     sorts: &[Sort::Trial, Sort::Board],
-    files: 1_000,
-    small: 0,
+    amounts: Amounts {
+        files: 1_000,
+        small: 0,
+    },
+    // A program prints its text whole.
+    without: &[Row::TextInParts],
 };
 
 /// A program's name, and all there is to know of its files.
@@ -27,7 +32,7 @@ struct Reader {
     name: &'static str,
     any_file: fn(&mut Dice) -> Vec<u8>,
     text: fn(&[u8]) -> Vec<u8>,
-    observe: fn(&mut Column, &[u8], &[u8]),
+    observe: fn(&mut Column, &[u8]),
 }
 
 /// The programs that read a file.
@@ -56,9 +61,9 @@ impl Reader {
 
     /// Compares what the program printed for a file with the reference's text.
     fn compare(&self, witness: &mut Witness, file: &[u8], printed: &Printed) {
-        witness.column.inputs += 1;
+        witness.column.saw(Row::Inputs);
         let text = (self.text)(file);
-        (self.observe)(witness.column, file, &text);
+        (self.observe)(witness.column, file);
         let asked = || format!("{} < file", self.name);
         witness.compare(asked, printed, &Printed::expected(text));
     }
@@ -111,8 +116,8 @@ fn run_all(options: &Options, started: impl Fn(&Reader) -> Program) -> ExitCode 
         differing.sort_unstable();
         differences.extend(differing.iter().map(|index| (reader.sort, *index)));
     }
-    counts::print_table_of_files(&columns, JUDGE.sorts);
-    verdict::print(&JUDGE, options.seed, &columns, &differences)
+    counts::print_table(&JUDGE, &columns);
+    verdict::print(&JUDGE, options, &columns, &differences)
 }
 
 /// Runs one program on its files; those whose texts differ.
@@ -128,18 +133,23 @@ fn run_reader(
         let printed = program.run(&file);
         (file, printed)
     };
-    at_once(options.files as usize, work, |place, (file, printed)| {
-        let mut witness = Witness::new(column, false);
-        reader.compare(&mut witness, &file, &printed);
-        if witness.differed {
-            differing.push(place as u64);
-        }
-    });
+    at_once(
+        options.amounts.of(reader.sort) as usize,
+        work,
+        |place, (file, printed)| {
+            let mut witness = Witness::new(column, false);
+            reader.compare(&mut witness, &file, &printed);
+            if !witness.agreed() {
+                differing.push(place as u64);
+            }
+        },
+    );
     differing
 }
 
 #[cfg(test)]
 mod tests {
+    use super::super::reached;
     use super::*;
 
     /// Every sort that the command line takes has its program.
@@ -149,13 +159,37 @@ mod tests {
         assert_eq!(sorts, JUDGE.sorts);
     }
 
+    /// As many files as there are by default reach every row that files can, where the programs print what they should.
+    #[test]
+    fn every_row_by_default() {
+        let mut columns = Columns::default();
+        for reader in &READERS {
+            for index in 0..JUDGE.amounts.of(reader.sort) {
+                let file = reader.file(1, index);
+                let printed = Printed::expected((reader.text)(&file));
+                let mut witness = Witness::new(&mut columns[reader.sort as usize], false);
+                reader.compare(&mut witness, &file, &printed);
+                assert!(witness.agreed());
+            }
+        }
+        let options = Options {
+            seed: 1,
+            amounts: JUDGE.amounts,
+            only: None,
+            help: false,
+        };
+        assert_eq!(reached::faults(&JUDGE, &options, &columns), [""; 0]);
+    }
+
     /// A program that prints nothing is found out, but for files whose text is nothing.
     #[test]
     fn a_silent_program() {
         let options = Options {
             seed: 1,
-            files: 20,
-            small: 0,
+            amounts: Amounts {
+                files: 20,
+                small: 0,
+            },
             only: None,
             help: false,
         };
@@ -166,7 +200,7 @@ mod tests {
             differing.sort_unstable();
             let speaks = |index: &u64| !(reader.text)(&reader.file(1, *index)).is_empty();
             assert_eq!(differing, (0..20).filter(speaks).collect::<Vec<u64>>());
-            assert_eq!(column.inputs, 20);
+            assert_eq!(column.seen(Row::Inputs), 20);
         }
     }
 }

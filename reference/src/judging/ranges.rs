@@ -3,7 +3,9 @@
 use crate::proved::{self, Block, Number};
 use crate::{range, refusal};
 
+use super::functions::Function;
 use super::random::Dice;
+use super::rows::Row;
 use super::witness::Witness;
 use super::world::{low_bits, Area};
 
@@ -48,8 +50,8 @@ fn any_block(dice: &mut Dice) -> (u64, u8) {
 /// The block of a number, on both sides.
 fn compare_block_of(witness: &mut Witness, number: u64) {
     let (start, k) = range::block_of(number);
-    witness.column.saw_answer(refusal::NONE);
-    witness.column.saw_block(k);
+    witness.column.saw_answer(Function::BlockOf, refusal::NONE);
+    witness.column.saw(Row::of_block(k));
     let reference = Block { start, k: k as u8 };
     let asked = || format!("block_of {number:016X}");
     witness.compare(asked, &proved::block_of(number), &reference);
@@ -67,7 +69,9 @@ fn compare_number_of(witness: &mut Witness, start: u64, k: u8) {
             number: 0,
         },
     };
-    witness.column.saw_answer(reference.refusal);
+    witness
+        .column
+        .saw_answer(Function::NumberOf, reference.refusal);
     let proved = proved::number_of(Block { start, k });
     let asked = || format!("number_of start {start:016X}, k {k:02X}");
     witness.compare(asked, &proved, &reference);

@@ -8,16 +8,18 @@ pub enum Sort {
     Box,
     Trial,
     Board,
+    Calls,
 }
 
 impl Sort {
     /// All sorts, in the order in which they are run.
-    pub const ALL: [Sort; 5] = [
+    pub const ALL: [Sort; 6] = [
         Sort::Range,
         Sort::Message,
         Sort::Box,
         Sort::Trial,
         Sort::Board,
+        Sort::Calls,
     ];
 
     /// The name on the command line.
@@ -28,6 +30,7 @@ impl Sort {
             Sort::Box => "box",
             Sort::Trial => "trial",
             Sort::Board => "board",
+            Sort::Calls => "calls",
         }
     }
 

@@ -7,23 +7,6 @@ use super::parts::{change_a_byte, damage_bytes};
 use super::random::Dice;
 use super::world::Area;
 
-/// The entries of a file that is no bad file.
-pub fn arrivals_of(file: &[u8]) -> Vec<Arrival> {
-    let count = usize::from(file[0]) * 256 + usize::from(file[1]);
-    let (table, mut bodies) = file[2..].split_at(3 * count);
-    let mut arrivals = Vec::new();
-    for entry in table.chunks(3) {
-        let length = usize::from(entry[1]) * 256 + usize::from(entry[2]);
-        let (body, rest) = bodies.split_at(length);
-        bodies = rest;
-        arrivals.push(Arrival {
-            port: entry[0],
-            bytes: body.to_vec(),
-        });
-    }
-    arrivals
-}
-
 /// The file of these entries.
 fn file_of(arrivals: &[Arrival]) -> Vec<u8> {
     let entry = |arrival: &Arrival| (arrival.port, arrival.bytes.clone());

@@ -5,6 +5,7 @@ use crate::trial::trial_text;
 
 use super::observed;
 use super::random::Dice;
+use super::rows::Row;
 use super::texts::TextAnswer;
 use super::trial_files::any_file;
 use super::witness::{Hex, Witness};
@@ -17,10 +18,10 @@ pub fn judge(dice: &mut Dice, witness: &mut Witness) {
     let file = any_file(dice);
     witness.show(|| format!("trial file: {:?}", Hex(file.clone())));
     let text = trial_text(&file);
-    observed::trial_file(witness.column, &file, &text);
+    observed::trial_file(witness.column, &file);
     compare(witness, &file, &text, WHOLE);
     if dice.chance(25) {
-        witness.column.short_texts += 1;
+        witness.column.saw(Row::TextInParts);
         for _ in 0..4 {
             let room = dice.between(0, text.len() + 2);
             compare(witness, &file, &text, room);

@@ -4,6 +4,7 @@ use std::fmt::{self, Debug, Formatter};
 
 use super::counts::Column;
 use super::output::say;
+use super::rows::Row;
 
 /// Bytes that are shown in hexadecimal.
 #[derive(PartialEq)]
@@ -29,6 +30,7 @@ impl Debug for Text {
 pub struct Witness<'a> {
     pub column: &'a mut Column,
     pub differed: bool,
+    compared: bool,
     printing: bool,
 }
 
@@ -38,6 +40,7 @@ impl<'a> Witness<'a> {
         Witness {
             column,
             differed: false,
+            compared: false,
             printing,
         }
     }
@@ -57,11 +60,27 @@ impl<'a> Witness<'a> {
         reference: &T,
     ) -> bool {
         let same = proved == reference;
+        self.column.saw(Row::Comparisons);
+        self.compared = true;
         self.differed |= !same;
         if self.printing {
             print_answers(&asked(), proved, reference, same);
         }
         same
+    }
+
+    /// Whether something was compared and nothing differed.
+    pub fn agreed(&self) -> bool {
+        self.compared && !self.differed
+    }
+
+    /// The same in words.
+    pub fn outcome(&self) -> &'static str {
+        match (self.compared, self.differed) {
+            (false, _) => "nothing was compared",
+            (true, true) => "different",
+            (true, false) => "the same",
+        }
     }
 }
 
@@ -87,5 +106,27 @@ fn print_first_difference(proved: &str, reference: &str) {
     if let Some((ours, theirs)) = pairs.find(|(ours, theirs)| ours != theirs) {
         say(format!("first difference, proved:    {}", ours.trim()));
         say(format!("first difference, reference: {}", theirs.trim()));
+    }
+}
+
+#[cfg(test)]
+mod tests {
+    use super::*;
+
+    /// An input of which nothing was compared has not agreed.
+    #[test]
+    fn agreeing() {
+        let mut column = Column::default();
+        let mut witness = Witness::new(&mut column, false);
+        assert_eq!(
+            (witness.agreed(), witness.outcome()),
+            (false, "nothing was compared")
+        );
+        assert!(witness.compare(String::new, &1, &1));
+        assert_eq!((witness.agreed(), witness.outcome()), (true, "the same"));
+        assert!(!witness.compare(String::new, &1, &2));
+        assert!(witness.compare(String::new, &1, &1));
+        assert_eq!((witness.agreed(), witness.outcome()), (false, "different"));
+        assert_eq!(column.seen(Row::Comparisons), 3);
     }
 }

@@ -153,6 +153,18 @@ pub fn doubtful_node(dice: &mut Dice) -> u64 {
     ])
 }
 
+/// A start that is no multiple of 2^k, and the k.
+pub fn crooked_block(dice: &mut Dice) -> (u64, u32) {
+    let k = dice.between(1, 64) as u32;
+    let start = dice.number() & !low_bits(k) | 1 << dice.below(u64::from(k));
+    (start, k)
+}
+
+/// A k that is none, beside the start that every k allows.
+pub fn endless_block(dice: &mut Dice) -> (u64, u32) {
+    (0, dice.pick(&[65, 66, 128, 255]))
+}
+
 #[cfg(test)]
 mod tests {
     use super::*;

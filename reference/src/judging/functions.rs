@@ -1,0 +1,85 @@
+//! The functions that are judged, what each can answer, and which inputs call it.
+
+use super::sort::Sort;
+
+/// A function, or what a file puts a box or a board through in its place.
+#[derive(Clone, Copy, PartialEq, Eq, PartialOrd, Ord, Debug)]
+pub enum Function {
+    BlockOf,
+    NumberOf,
+    Read,
+    Write,
+    Start,
+    Receive,
+    Initialise,
+    Announce,
+    Produce,
+    SetStatus,
+    Hear,
+}
+
+impl Function {
+    /// All of them, in the order of the table.
+    pub const ALL: [Function; 11] = [
+        Function::BlockOf,
+        Function::NumberOf,
+        Function::Read,
+        Function::Write,
+        Function::Start,
+        Function::Receive,
+        Function::Initialise,
+        Function::Announce,
+        Function::Produce,
+        Function::SetStatus,
+        Function::Hear,
+    ];
+
+    /// The name in the table.
+    pub fn name(self) -> &'static str {
+        match self {
+            Function::BlockOf => "block of",
+            Function::NumberOf => "number of",
+            Function::Read => "read",
+            Function::Write => "write",
+            Function::Start => "start",
+            Function::Receive => "receive",
+            Function::Initialise => "initialise",
+            Function::Announce => "announce",
+            Function::Produce => "produce",
+            Function::SetStatus => "set status",
+            Function::Hear => "hear",
+        }
+    }
+
+    /// The refusals that can arise, and 0 for none (01-scope, Refusal numbers, order). Refusal 13 cannot.
+    pub fn answers(self) -> &'static [u8] {
+        match self {
+            Function::BlockOf => &[0],
+            Function::NumberOf => &[0, 14],
+            Function::Read => &[0, 1, 2, 3, 4, 5],
+            Function::Write => &[0, 2, 3, 4, 5, 6],
+            Function::Start => &[0, 8],
+            Function::Receive => &[0, 1, 2, 3, 4, 5, 7, 8],
+            Function::Initialise => &[0, 3, 6, 7],
+            Function::Announce => &[0, 3, 6, 7, 9, 10],
+            Function::Produce => &[0, 3, 6, 7, 9, 10, 11, 12],
+            Function::SetStatus => &[0, 3, 7, 10],
+            Function::Hear => &[0, 1, 2, 3, 4, 5, 6, 7],
+        }
+    }
+
+    /// The sorts of input that call it.
+    pub fn sorts(self) -> &'static [Sort] {
+        match self {
+            Function::BlockOf | Function::NumberOf => &[Sort::Range],
+            Function::Read | Function::Write => &[Sort::Message],
+            Function::Start => &[Sort::Box],
+            Function::Receive => &[Sort::Box, Sort::Trial],
+            Function::Initialise
+            | Function::Announce
+            | Function::Produce
+            | Function::SetStatus
+            | Function::Hear => &[Sort::Board, Sort::Calls],
+        }
+    }
+}
