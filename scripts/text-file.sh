@@ -1,9 +1,12 @@
 # How ./run reads a text file: a line a message, in hexadecimal or by name (./run --help). The script that reads this has set `file`, the name that
-# messages show, `most_entries` and `most_bytes`. Answers are left in variables: a subshell for each line would take seconds.
+# messages show, `most_entries` and `most_bytes`. Answers are left in variables: a subshell for each line would take seconds, and so would
+# `%%` and `#` on a line of a megabyte; a match does not.
 
-# Says what is wrong with the line at hand, and ends.
+# Says what is wrong with the line at hand, and ends. A word can be as long as the file, so not all of it is shown.
 wrong() {
-  fail "$file, line $number: $*"
+  local reason="$*"
+  [ "${#reason}" -le 200 ] || reason="${reason:0:200} ..."
+  fail "$file, line $number: $reason"
 }
 
 # Sets `digits` to a word's hexadecimal digits. A dot has whole bytes on both sides, since 0A.0.7 could be read in two ways.
@@ -63,25 +66,26 @@ read_message() {
   done
 }
 
-# Reads a text file. Sets `trial` to its messages as a trial file, in hexadecimal, and `in_hex` to the same text with each message in hexadecimal.
+# Reads a text file. Sets `trial` to its messages as a trial file, in hexadecimal, and `in_hex` to the lines of the same text with each message in hexadecimal.
 read_text_file() {
   local LC_ALL=C IFS=$' \t\r' number=0 count=0 table='' bodies='' line message comment port words digits fields body entry
-  in_hex=''
+  in_hex=()
   while IFS= read -r line || [ -n "$line" ]; do
     number=$((number + 1))
     # Windows puts this mark before UTF-8 text
-    [ "$number" -gt 1 ] || line="${line#$'\xEF\xBB\xBF'}"
-    line="${line%$'\r'}"
-    message="${line%%#*}"
+    [[ "$number" -gt 1 || "$line" != $'\xEF\xBB\xBF'* ]] || line="${line:3}"
+    [[ "$line" != *$'\r' ]] || line="${line:0:-1}"
+    [[ "$line" =~ ^[^#]* ]]
+    message="${BASH_REMATCH[0]}"
     comment="${line:${#message}}"
     if [[ "$message" != *[!$IFS]* ]]; then
-      in_hex+="$line"$'\n'
+      in_hex+=("$line")
       continue
     fi
-    [[ "$message" == *:* ]] || wrong "no colon after the port"
-    read -r port <<<"${message%%:*}"
+    [[ "$message" =~ ^([^:]*):(.*)$ ]] || wrong "no colon after the port"
+    read -r port <<<"${BASH_REMATCH[1]}"
+    read -ra words <<<"${BASH_REMATCH[2]}"
     [[ "$port" =~ ^[0-9]{1,3}$ ]] && [ "$((10#$port))" -le 255 ] || wrong "\"$port\" is no port, a number from 0 to 255"
-    read -ra words <<<"${message#*:}"
     read_message "${words[@]}"
     body="${fields// /}"
     [ $((${#body} % 2)) -eq 0 ] || wrong "the message has half a byte (${#body} hexadecimal digits)"
@@ -91,7 +95,7 @@ read_text_file() {
     printf -v entry '%02X%04X' "$((10#$port))" "$((${#body} / 2))"
     table+="$entry"
     bodies+="$body"
-    in_hex+="$((10#$port)):${fields:+ $fields}${comment:+ $comment}"$'\n'
+    in_hex+=("$((10#$port)):${fields:+ $fields}${comment:+ $comment}")
   done <"$1"
   [ "$count" -gt 0 ] || fail "$file: there is no message in it"
   printf -v trial '%04X%s%s' "$count" "$table" "$bodies"
