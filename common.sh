@@ -1,4 +1,5 @@
 # What ./run and ./judge share. The script that reads this has set `here`, the repository, and `me`, its own name.
+. "$here/scripts/progress.sh"
 
 fail() {
   echo "$me: $*" >&2
@@ -10,9 +11,8 @@ make_sure() {
   local what="$1" log="target/$2"
   shift 2
   command -v rt >/dev/null || fail "there is no rt on the PATH: the Rattle kit is needed (README.md, \"What is needed\")"
-  echo "$me: making sure that $what proved and built (some minutes the first time) ..." >&2
   mkdir -p "$(dirname "$here/$log")"
-  if ! (cd "$here" && rt "$@") >"$here/$log" 2>&1; then
+  if ! (cd "$here" && rt "$@") 2>&1 | tee "$here/$log" | show_progress "$what" "${@:2}"; then
     tail -n 5 "$here/$log" >&2
     fail "that failed: $log has what rt said"
   fi
