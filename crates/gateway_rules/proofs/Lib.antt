@@ -11,3 +11,4 @@ pub mod Distinct
 pub mod Sharing
 pub mod Examples
 pub mod Reported
+pub mod Limits
