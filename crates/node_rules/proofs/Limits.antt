@@ -1,21 +1,19 @@
 -- How large what a call leaves can be: the refusal's number, the bytes written, the state and the marks.
 use Prim.Native.Nat.{ℕ, zero, suc, _≤_}
-use mathlib.Core.Path.{_≡_, refl, sym, ap, _∙_, subst}
+use mathlib.Core.Path.{_≡_, refl, ap, _∙_}
 use mathlib.Core.Bool.{Bool, true, false, cond}
 use mathlib.Core.List.{List, [], _∷_}
 use native.Mathlib.Omega.{arith}
-use borrow.Author.Tests.{ltb-false, leb-true, leb-false}
-use lib.Dec.{leb}
-use lib.ListN.{length, getD, length-append, List·getD-eq-default}
-use Rattle.basics.specs.Lists.{each}
+use borrow.Author.Tests.{ltb-false}
+use lib.ListN.{length, length-append}
 use Rattle.basics.specs.Refusals.{firstOf, answered, None}
-use Rattle.basics.proofs.Each.{each-length, each-at}
+use Rattle.basics.proofs.Each.{each-length, each-up-to}
 use Rattle.basics.proofs.Firsts.{numberedUpTo, first-up-to, first-none, first-passed, rest-passed}
 use Rattle.message.specs.Messages.{badNode, messageBytes}
 use Rattle.range.specs.Range.{inBlock}
 use Rattle.node_rules.specs.declared.Call.{Call}
 use Rattle.node_rules.specs.declared.Call.the-variants.{Initialise, Announce, Produce, SetStatus, Receive}
-use Rattle.node_rules.specs.Boards.{Slots, Board, initialized, advertised, unadvertised, count, eventOf, markOf, advertise, restartedMarks}
+use Rattle.node_rules.specs.Boards.{Slots, Board, initialized, advertised, unadvertised, eventOf, markOf, advertise}
 use Rattle.node_rules.specs.Sending.{completeBy, wholeBytes, allBytes, advertising}
 use Rattle.node_rules.specs.Calls.{Outcome, refusing, accepted, size, testsOf, outcome}
 use Rattle.node_rules.proofs.Pieces.{complete-content, complete-length}
@@ -75,13 +73,6 @@ module _ (b : Board) (call : Call) (bytes : List ℕ) (room : ℕ) where
 pub record Told (b : Board) : Type 0 where
   pub state : b .node .state ≤ initialized
   pub marks : (i : ℕ) → markOf (b .slots) i ≤ advertised
-
-each-up-to : (n m : ℕ) (f : ℕ → ℕ) → ((i : ℕ) → f i ≤ m) → (i : ℕ) → getD (each n f) i 0 ≤ m
-each-up-to n m f h i = go (leb n i) refl
-  where
-    go : (t : Bool) → leb n i ≡ t → getD (each n f) i 0 ≤ m
-    go true e = let none = List·getD-eq-default (each n f) 0 {n = i} (omega (arith, leb-true n i e, each-length n f)) in omega (arith, none)
-    go false e = omega (arith, each-at n f 0 i (leb-false n i e), h i)
 
 mark-or : (t : Bool) (old : ℕ) → old ≤ advertised → cond t advertised old ≤ advertised
 mark-or true old h = omega arith
