@@ -32,7 +32,7 @@ find_starter() {
 # Runs a program, the words given. The language has no exit status: what a program says on standard error, that its output is not whole, becomes status 1.
 run_whole() {
   local said status=0
-  { : >&1; } 2>/dev/null || fail "standard output is closed"
+  { : 3>&1; } 2>/dev/null || fail "standard output is closed"
   { said="$("$@" 2>&1 >&3 3>&-)" || status=$?; } 3>&1
   [ -n "$said" ] || return "$status"
   echo "$said" >&2
