@@ -28,3 +28,13 @@ find_starter() {
   [ -x "$emulator" ] || fail "programs are for x86-64, and the kit has no emulator for $(uname -m)"
   starter=("$emulator" "$kit/toolchain/lib/ld-linux-x86-64.so.2" --library-path "$kit/toolchain/lib")
 }
+
+# Runs a program, the words given. The language has no exit status: what a program says on standard error, that its output is not whole, becomes status 1.
+run_whole() {
+  local said status=0
+  { : 3>&1; } 2>/dev/null || fail "standard output is closed"
+  { said="$("$@" 2>&1 >&3 3>&-)" || status=$?; } 3>&1
+  [ -n "$said" ] || return "$status"
+  echo "$said" >&2
+  return 1
+}

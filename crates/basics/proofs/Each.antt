@@ -1,5 +1,5 @@
 -- A list made place by place, whole and while a loop writes it.
-use Prim.Native.Nat.{ℕ, zero, suc, _+_, _<_}
+use Prim.Native.Nat.{ℕ, zero, suc, _+_, _≤_, _<_}
 use mathlib.Core.Path.{_≡_, refl, sym, ap, ap₂, _∙_}
 use mathlib.Core.Logic.{⊎-elim}
 use mathlib.Core.Bool.{Bool, true, false}
@@ -66,3 +66,11 @@ module _ {A : Type 0} where
         ∙ set-at (each i f) (getD xs i d) (drop (suc i) xs) (f i) i (each-length i f)
         ∙ sym (append-snoc (each i f) (f i) (drop (suc i) xs))
         ∙ ap (λ (k : ℕ). each k f ++ drop k xs) (sym (add-one i))
+
+-- Numbers of at most m, and 0 where there is none.
+pub each-up-to : (n m : ℕ) (f : ℕ → ℕ) → ((i : ℕ) → f i ≤ m) → (i : ℕ) → getD (each n f) i 0 ≤ m
+each-up-to n m f h i = go (leb n i) refl
+  where
+    go : (t : Bool) → leb n i ≡ t → getD (each n f) i 0 ≤ m
+    go true e = let none = List·getD-eq-default (each n f) 0 {n = i} (omega (arith, leb-true n i e, each-length n f)) in omega (arith, none)
+    go false e = omega (arith, each-at n f 0 i (leb-false n i e), h i)

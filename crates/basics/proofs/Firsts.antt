@@ -1,11 +1,11 @@
 -- The first test that applies: what the list answers, and that it is given exactly when document 01 says.
-use Prim.Native.Nat.{ℕ, zero, suc}
+use Prim.Native.Nat.{ℕ, zero, suc, _≤_, zero-le}
 use mathlib.Core.Path.{_≡_, refl, sym, ap, _∙_}
 use mathlib.Core.Logic.{_↔_}
 use mathlib.Core.Bool.{Bool, true, false, cond, not, _&&_}
 use mathlib.Core.List.{List, [], _∷_, _++_, append-nil}
-use borrow.Author.Tests.{eqb-false, not-true}
-use lib.Dec.{eqb}
+use borrow.Author.Tests.{eqb-false, not-true, leb-true}
+use lib.Dec.{eqb, leb}
 use Rattle.basics.proofs.Bools.{both}
 use Rattle.basics.specs.Refusals.{Test, firstOf, answered, None, Given}
 use Rattle.basics.specs.Refusals.None.{none, passed}
@@ -82,6 +82,21 @@ first-given ts n p = (
   given-of ts n p,
   λ g. ap firstOf (g .order) ∙ first-after (g .earlier) (g .test ∷ g .after) ∙ ap (λ (b : Bool). cond b (g .test .number) (firstOf (g .after))) (g .here) ∙ g .numbered,
 )
+
+-- ---- how large a refusal's number is
+
+-- Every test has a number of at most n.
+abbrev pub numberedUpTo : ℕ → List Test → Bool
+numberedUpTo n [] = true
+numberedUpTo n (t ∷ ts) = leb (t .number) n && numberedUpTo n ts
+
+pub first-up-to : (n : ℕ) (ts : List Test) → numberedUpTo n ts ≡ true → firstOf ts ≤ n
+first-up-to n [] h = zero-le
+first-up-to n (t ∷ ts) h = go (t .applies) (both (leb (t .number) n) (numberedUpTo n ts) h) (first-up-to n ts)
+  where
+    go : (a : Bool) → (leb (t .number) n ≡ true) × (numberedUpTo n ts ≡ true) → (numberedUpTo n ts ≡ true → firstOf ts ≤ n) → cond a (t .number) (firstOf ts) ≤ n
+    go true p k = leb-true (t .number) n (p .0)
+    go false p k = k (p .1)
 
 -- ---- answers
 

@@ -12,3 +12,4 @@ pub mod Accepted
 pub mod Sharing
 pub mod Examples
 pub mod Reported
+pub mod Limits

@@ -6,3 +6,4 @@ pub mod Exactly
 pub mod Bounds
 pub mod Once
 pub mod Witness
+pub mod Limits

@@ -4,3 +4,5 @@ pub mod Texts
 pub mod Outcomes
 pub mod Running
 pub mod Started
+pub mod Longest
+pub mod Parts

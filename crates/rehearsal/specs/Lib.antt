@@ -1,3 +1,4 @@
 pub mod Files
 pub mod Lines
 pub mod Calls
+pub mod Parts

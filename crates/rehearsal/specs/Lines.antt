@@ -1,5 +1,5 @@
 -- What a board file prints: a line for each call, or "bad file".
-use Prim.Native.Nat.{ℕ, zero, suc, _+_}
+use Prim.Native.Nat.{ℕ, zero, suc, _+_, _*_}
 use mathlib.Core.Bool.{cond}
 use mathlib.Core.List.{List, [], _∷_, _++_}
 use lib.Dec.{leb}
@@ -48,3 +48,12 @@ callLines b s = linesFrom mostCalls 0 b s (callsAt s)
 
 unfoldable pub textOf : List ℕ → List ℕ
 textOf s = cond (goodFile s) (callLines (boardIn s) s) badFile
+
+-- ---- how long it can be
+
+-- That of an accepted call: 3 digits, 1, 1,024 bytes in two digits each, 16, 1, 64 marks, five spaces and the new line.
+abbrev pub longestLine : ℕ
+longestLine = 2139
+
+abbrev pub longest : ℕ
+longest = mostCalls * longestLine

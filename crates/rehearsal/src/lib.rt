@@ -6,9 +6,10 @@ mod slots;
 
 pub use lines::put_line;
 ghost use mathlib.Core.Path.{_≡_};
-ghost use lib.ListN.{drop};
-ghost use Rattle.text.specs.Text.{filledAt, endAt};
+ghost use lib.ListN.{length, drop};
+ghost use Rattle.text.specs.Text.{filledAt, endAt, laidOver};
 ghost use Rattle.rehearsal.specs.Lines.{textOf};
+ghost use Rattle.rehearsal.specs.Parts.{partFrom};
 use node_rules::Node;
 use text::Place;
 
@@ -49,4 +50,12 @@ pub fn rehearse(file: &[u8], skip: usize, text: &mut [u8]) -> usize
         text,
     );
     end.at
+}
+
+// Puts a part of a file's text, from a byte of it on, at the start of text, and answers how long it is. The last part is the first that does not fill text.
+pub fn part(file: &[u8], skip: usize, text: &mut [u8; 65536]) -> usize
+    ensures { λ r. ⌜ r ≡ length (partFrom skip (textOf (now (file .entry)))) ⌝ }
+    ensures { λ _. ⌜ now (text .exit) ≡ laidOver (partFrom skip (textOf (now (file .entry)))) (now (text .entry)) ⌝ }
+{
+    rehearse(file, skip, text)
 }

@@ -1,3 +1,4 @@
 mod Good
 mod Running
 mod Texts
+pub mod Longest

@@ -1,5 +1,5 @@
 -- What a trial file prints: a line for each entry, or "bad file" (document 01, "Trial program").
-use Prim.Native.Nat.{ℕ, zero, suc}
+use Prim.Native.Nat.{ℕ, zero, suc, _*_}
 use mathlib.Core.Bool.{cond}
 use mathlib.Core.List.{List, [], _∷_, _++_}
 use lib.Dec.{eqb}
@@ -46,3 +46,13 @@ linesFrom (suc n) i g s = lineFor i (stepAt g s i) ++ linesFrom n (suc i) (stepA
 
 unfoldable pub textOf : List ℕ → List ℕ
 textOf s = cond (goodFile s) (linesFrom (entryCount s) 0 (startOf ports house) s) badFile
+
+-- ---- how long it can be
+
+-- "999 refused 8 256" and the new line.
+abbrev pub longestLine : ℕ
+longestLine = 18
+
+-- At most 1,000 entries.
+abbrev pub longest : ℕ
+longest = 1000 * longestLine

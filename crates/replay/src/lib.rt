@@ -4,7 +4,8 @@ mod files;
 mod lines;
 
 ghost use mathlib.Core.Path.{_≡_};
-ghost use Rattle.text.specs.Text.{filledAt, endAt};
+ghost use lib.ListN.{length};
+ghost use Rattle.text.specs.Text.{filledAt, endAt, laidOver};
 ghost use Rattle.replay.specs.Lines.{textOf};
 use text::Place;
 
@@ -20,4 +21,12 @@ pub fn replay(file: &[u8], text: &mut [u8]) -> usize
     }
     let end = entries::run(file, first, text);
     end.at
+}
+
+// Puts the whole text of a file at the start of text, which is longer than any file's, and answers how long the text is.
+pub fn whole(file: &[u8], text: &mut [u8; 65536]) -> usize
+    ensures { λ r. ⌜ r ≡ length (textOf (now (file .entry))) ⌝ }
+    ensures { λ _. ⌜ now (text .exit) ≡ laidOver (textOf (now (file .entry))) (now (text .entry)) ⌝ }
+{
+    replay(file, text)
 }

@@ -22,7 +22,7 @@ least m n = go (leb m n) refl
     go true e = omega (arith, leb-true m n e)
     go false e = omega (arith, leb-false m n e)
 
-end-at-min : (at : ℕ) (piece out : List ℕ) → endAt at piece out ≡ min (at + length piece) (length out)
+pub end-at-min : (at : ℕ) (piece out : List ℕ) → endAt at piece out ≡ min (at + length piece) (length out)
 unfolding endAt
 end-at-min at piece out = least (at + length piece) (length out)
 

@@ -21,6 +21,10 @@ filled p piece out = filledAt (p .at) (drop (p .skip) piece) out
 unfoldable pub endOf : Place → List ℕ → List ℕ → Place
 endOf p piece out = record { skip = p .skip - length piece; at = endAt (p .at) (drop (p .skip) piece) out }
 
+-- A piece over the buffer's first bytes, the others as they were.
+unfoldable pub laidOver : List ℕ → List ℕ → List ℕ
+laidOver piece out = piece ++ drop (length piece) out
+
 -- A place within the buffer.
 abbrev pub within : Place → ℕ → Place
 within p room = record { skip = p .skip; at = cond (leb (p .at) room) (p .at) room }

@@ -1,18 +1,18 @@
--- The parts stay within the file and the buffer.
+-- A full part ends within the longest text, so there is a last one; each part is within the buffer.
 use Prim.Native.Nat.{_-_, _≤_}
-use mathlib.Core.Path.{_≡_, sym, ap, _∙_}
 use native.Mathlib.Omega.{arith}
 use borrow.Author.Needs.{needs}
-use lib.ListN as list
-use Rattle.text.proofs.Laws.{end-within, filled-at-length}
+use Rattle.text.proofs.Lengths.{laid-within}
+use Rattle.rehearsal.specs.Lines.{longest}
+use Rattle.rehearsal.proofs.Parts.{full-part}
 use Rattle.rehearse.proofs.main.Statement.{statement}
 use Rattle.rehearse.proofs.main.Tie as tie
 
 abbrev Inv-loop : tie.InvT-loop
-Inv-loop file length text₀ part₀ text part = (part ≤ 64) × (list.length text ≡ 65536)
+Inv-loop file length text₀ skip₀ t6 text skip = skip ≤ longest
 
 abbrev μ-loop : tie.MeasureT-loop
-μ-loop file length text₀ part₀ text part = 64 - part
+μ-loop file length text₀ skip₀ t6 text skip = longest - skip
 
 slice-aggregate-read-full : tie.Need-slice-aggregate-read-full Inv-loop μ-loop
 slice-aggregate-read-full c = search needs
@@ -24,28 +24,19 @@ large-buffer-requires : tie.Need-large-buffer-requires Inv-loop μ-loop
 large-buffer-requires c κs = search needs
 
 loop-holds : tie.Need-loop-holds Inv-loop μ-loop
-loop-holds c = (omega arith, sym (c .large-buffer .ensures))
+loop-holds c = omega arith
 
-sub-rehearse : tie.Need-sub-rehearse Inv-loop μ-loop
-sub-rehearse c = search needs
+sub-part : tie.Need-sub-part Inv-loop μ-loop
+sub-part c = search needs
 
-part-rehearse-start : tie.Need-part-rehearse-start Inv-loop μ-loop
-part-rehearse-start c = search needs
+part-part-start : tie.Need-part-part-start Inv-loop μ-loop
+part-part-start c = search needs
 
-part-rehearse-end : tie.Need-part-rehearse-end Inv-loop μ-loop
-part-rehearse-end c = search needs
+part-part-end : tie.Need-part-part-end Inv-loop μ-loop
+part-part-end c = search needs
 
-mul-rehearse : tie.Need-mul-rehearse Inv-loop μ-loop
-mul-rehearse c = omega arith
-
-slice-aggregate-rehearse : tie.Need-slice-aggregate-rehearse Inv-loop μ-loop
-slice-aggregate-rehearse c = search needs
-
-rehearse-requires : tie.Need-rehearse-requires Inv-loop μ-loop
-rehearse-requires c κs = search needs
-
-add-part : tie.Need-add-part Inv-loop μ-loop
-add-part c = omega arith
+part-requires : tie.Need-part-requires Inv-loop μ-loop
+part-requires c κs = search needs
 
 sub-write-all : tie.Need-sub-write-all Inv-loop μ-loop
 sub-write-all c = search needs
@@ -54,22 +45,31 @@ part-write-all-start : tie.Need-part-write-all-start Inv-loop μ-loop
 part-write-all-start c = search needs
 
 part-write-all-end : tie.Need-part-write-all-end Inv-loop μ-loop
-part-write-all-end c = let h = end-within _ _ _ _ (c .before .before .rehearse .ensures .0) in omega (arith, h, c .before .before .before .before .before .before .before .loop .inv .1)
+part-write-all-end c = laid-within _ _ _ _ (c .before .part .ensures .0) (c .before .part .ensures .1)
 
 write-all-requires : tie.Need-write-all-requires Inv-loop μ-loop
 write-all-requires c κs = search needs
 
+slice-aggregate-write-all : tie.Need-slice-aggregate-write-all Inv-loop μ-loop
+slice-aggregate-write-all c = search needs
+
+write-all-requires-2 : tie.Need-write-all-requires-2 Inv-loop μ-loop
+write-all-requires-2 c κs = search needs
+
 returns : tie.Need-returns Inv-loop μ-loop
 returns c = search needs
 
-loop-less : tie.Need-loop-less Inv-loop μ-loop
-loop-less c = omega arith
-
-loop-again : tie.Need-loop-again Inv-loop μ-loop
-loop-again c = (omega arith, ap list.length (c .before .before .before .before .before .rehearse .ensures .1) ∙ filled-at-length 0 _ _ ∙ c .before .before .before .before .before .before .before .before .before .before .loop .inv .1)
-
 returns-2 : tie.Need-returns-2 Inv-loop μ-loop
 returns-2 c = search needs
+
+add-skip : tie.Need-add-skip Inv-loop μ-loop
+add-skip c = let h = full-part _ _ (c .before .before .before .before .before .part .ensures .0) (omega arith) in omega (arith, h)
+
+loop-less : tie.Need-loop-less Inv-loop μ-loop
+loop-less c = let h = full-part _ _ (c .before .before .before .before .before .part .ensures .0) (omega arith) in omega (arith, h)
+
+loop-again : tie.Need-loop-again Inv-loop μ-loop
+loop-again c = let h = full-part _ _ (c .before .before .before .before .before .part .ensures .0) (omega arith) in omega (arith, h)
 
 pub main-spec : {M : Type 1} → statement M
 main-spec =
@@ -81,18 +81,18 @@ main-spec =
     read-full-requires
     large-buffer-requires
     loop-holds
-    sub-rehearse
-    part-rehearse-start
-    part-rehearse-end
-    mul-rehearse
-    slice-aggregate-rehearse
-    rehearse-requires
-    add-part
+    sub-part
+    part-part-start
+    part-part-end
+    part-requires
     sub-write-all
     part-write-all-start
     part-write-all-end
     write-all-requires
+    slice-aggregate-write-all
+    write-all-requires-2
     returns
+    returns-2
+    add-skip
     loop-less
-    loop-again
-    returns-2)
+    loop-again)
