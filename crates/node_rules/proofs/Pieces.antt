@@ -16,13 +16,13 @@ use Rattle.message.specs.declared.Kind.the-variants.{EventReport, ConsumerIdent
 use Rattle.message.specs.declared.Message.{Message}
 use Rattle.message.specs.declared.Reading.the-variants.{Read}
 use Rattle.message.specs.Mti.{addressed, carriesEvent, barred, contentAt, sameKind, kindOf, isRestart, meaningOf}
-use Rattle.message.specs.Messages.{badNode, messageBytes, contentTests}
+use Rattle.message.specs.Messages.{badNode, Below, messageBytes, contentTests}
 use Rattle.basics.specs.Refusals.{firstOf}
 use Rattle.message.specs.Reading.{fieldsIn, mtiIn, messageIn, readOf}
 use Rattle.message.specs.Writing.{outAfter}
 use Rattle.message.proofs.Exactly.{read-accepted, accepted-leaves}
 use Rattle.message.proofs.Laws.{Placed, nodes-good, content-good, source-any, source-same}
-use Rattle.message.proofs.RoundTrips.{Below, write-then-read}
+use Rattle.message.proofs.RoundTrips.{write-then-read}
 use Rattle.message.proofs.Writings.{message-length, write-done}
 use Rattle.message.specs.Saying.{producer}
 use Rattle.node_rules.specs.Boards.{valid, invalid}
