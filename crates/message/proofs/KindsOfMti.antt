@@ -4,7 +4,7 @@ use mathlib.Core.Path.{_≡_, refl, sym, ap, _∙_}
 use mathlib.Core.Bool.{Bool, true, false, cond, not, Bool·beq, _&&_, _||_, true≢false}
 use mathlib.Core.List.{List, [], _∷_}
 use borrow.Author.Tests.{eqb-true}
-use lib.Dec.{eqb, ltb}
+use lib.Dec.{eqb}
 use Rattle.basics.proofs.Bools.{both}
 use Rattle.message.specs.declared.Kind.{Kind}
 use Rattle.message.specs.declared.Kind.the-variants.{InitializationComplete, EventReport, IdentifyConsumer, IdentifyProducer, ConsumerIdentified, ProducerIdentified, ConsumerRangeIdentified, ProducerRangeIdentified, IdentifyEvents, LearnEvent, Other}
@@ -84,12 +84,3 @@ other-exactly m = alike-everywhere (λ (x : Meaning). sameKind Other (x .kind)) 
 pub not-identified : (kindOf 0x04C6 ≡ Other) × (kindOf 0x0546 ≡ Other)
 unfolding meaningOf
 not-identified = (refl, refl)
-
--- ---- content
-
--- The MTIs that ask for content.
-pub content-asked : (m : ℕ) → ltb 0 (meaningOf m .least) ≡ oneOf (0x0100 ∷ 0x0110 ∷ 0x0F14 ∷ []) m
-unfolding meaningOf
-content-asked m =
-    let asking : List ℕ = 0x0100 ∷ 0x0110 ∷ 0x0F14 ∷ [] in
-    alike-everywhere (λ (x : Meaning). ltb 0 (x .least)) (oneOf asking) table m refl (λ u. sym (unknown-not-one asking table m refl u))
