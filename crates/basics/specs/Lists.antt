@@ -1,4 +1,4 @@
--- Lists: what passes a test, what is left out, and a list made place by place.
+-- Lists: what passes a test, what is left out, what the first one gives, and a list made place by place.
 use Prim.Native.Nat.{ℕ, zero, suc}
 use mathlib.Core.Bool.{Bool, false, cond, _||_}
 use mathlib.Core.List.{List, [], _∷_, _++_}
@@ -12,6 +12,11 @@ any test (x ∷ xs) = test x || any test xs
 abbrev pub without : {A : Type 0} → (A → Bool) → List A → List A
 without test [] = []
 without test (x ∷ xs) = cond (test x) (without test xs) (x ∷ without test xs)
+
+-- What the first one gives; `none` where there is none.
+abbrev pub firstOr : {A R : Type 0} → R → (A → R) → List A → R
+firstOr none gives [] = none
+firstOr none gives (x ∷ xs) = gives x
 
 -- What stands at each of the first n places.
 unfoldable pub each : {A : Type 0} → ℕ → (ℕ → A) → List A

@@ -21,6 +21,21 @@ abbrev pub answered : {A R : Type 0} → (A → R) → (ℕ → R) → ℕ → A
 answered accept reject zero x = accept x
 answered accept reject (suc n) x = reject (suc n)
 
+-- What an answer says in document 01's numbers: the refusal's number, 0 where there is none, and the value, or what stands beside a refusal.
+pub record Told (A : Type 0) : Type 0 where
+  pub refusal : ℕ
+  pub value : A
+
+abbrev pub told : {A : Type 0} → A → Told A
+told v = record { refusal = 0; value = v }
+
+abbrev pub refused : {A : Type 0} → ℕ → A → Told A
+refused n none = record { refusal = n; value = none }
+
+-- What tests in an order tell of a value: 0 and the value, or the refusal's number and nothing beside it.
+abbrev pub toldBy : {A : Type 0} → List Test → A → Told (List A)
+toldBy ts x = answered (λ y. told (y ∷ [])) (λ n. refused n []) (firstOf ts) x
+
 -- None of the tests applies.
 pub data None : List Test → Type 0 where
   none : None []

@@ -1,15 +1,13 @@
 -- Answers and messages without enums, as C has them.
 use Prim.Native.Nat.{ℕ}
 use mathlib.Core.Bool.{cond}
+use mathlib.Core.List.{List}
 use lib.Dec.{eqb}
-use Rattle.range.specs.Answer.{Told}
+use Rattle.basics.specs.Lists.{firstOr}
+use Rattle.basics.specs.Refusals.{Told}
 use Rattle.message.specs.declared.Field.{Field}
 use Rattle.message.specs.declared.Field.the-variants.{Present, Absent}
 use Rattle.message.specs.declared.Message.{Message}
-use Rattle.message.specs.declared.Reading.{Reading}
-use Rattle.message.specs.declared.Reading.the-variants.{Read, Refused}
-use Rattle.message.specs.declared.Writing.{Writing}
-use Rattle.message.specs.declared.Writing.the-variants.{Written, NotWritten}
 use Rattle.message.specs.Mti.{contentAt}
 use Rattle.c_face.specs.declared.FlatNumber.{FlatNumber}
 use Rattle.c_face.specs.declared.FlatMessage.{FlatMessage}
@@ -51,10 +49,9 @@ messageFrom f = record { mti = f .mti; source = f .source; destination = fieldOf
 abbrev pub noMessage : FlatMessage
 noMessage = record { mti = 0; source = 0; «has_destination» = 0; destination = 0; «has_event» = 0; event = 0 }
 
-abbrev pub readingOf : Reading → FlatReading
-readingOf (Read m) = record { refusal = 0; message = messageOf m; «content_at» = contentAt (m .mti) }
-readingOf (Refused n) = record { refusal = n; message = noMessage; «content_at» = 0 }
+-- What is told of reading and writing; beside a refusal every number is 0.
+abbrev pub toldReading : Told (List Message) → FlatReading
+toldReading t = record { refusal = t .refusal; message = firstOr noMessage messageOf (t .value); «content_at» = firstOr 0 (λ m. contentAt (m .mti)) (t .value) }
 
-abbrev pub writingOf : Writing → FlatWriting
-writingOf (Written n) = record { refusal = 0; bytes = n }
-writingOf (NotWritten n) = record { refusal = n; bytes = 0 }
+abbrev pub toldWriting : Told (List ℕ) → FlatWriting
+toldWriting t = record { refusal = t .refusal; bytes = firstOr 0 (λ n. n) (t .value) }

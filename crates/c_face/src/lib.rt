@@ -4,14 +4,14 @@ ghost use lib.ListN.{drop};
 ghost use Rattle.range.specs.Range.{blockOf};
 ghost use Rattle.range.specs.Answer.{numberTold};
 ghost use Rattle.text.specs.Text.{filledAt, endAt};
-ghost use Rattle.message.specs.Reading.{readOf};
-ghost use Rattle.message.specs.Writing.{writeOf, outAfter};
+ghost use Rattle.message.specs.Reading.{readTold};
+ghost use Rattle.message.specs.Writing.{writeTold, outAfter};
 ghost use Rattle.gateway_rules.specs.Step.{start as startedBy, step as stepOf};
 ghost use Rattle.gateway.specs.State.{gateOf, entered, left};
 ghost use Rattle.gateway.specs.Answers.{seenIn, seenOf, refusalKeeps, seenLent, lentStep, lentRefusalKeeps};
 ghost use Rattle.replay.specs.Lines.{textOf as trialText};
 ghost use Rattle.rehearsal.specs.Lines.{textOf as boardText};
-ghost use Rattle.c_face.specs.Flat.{toldNumber, messageOf, messageFrom, readingOf, writingOf, hasField, fieldValue, fieldOf};
+ghost use Rattle.c_face.specs.Flat.{toldNumber, messageOf, messageFrom, toldReading, toldWriting, hasField, fieldValue, fieldOf};
 use gateway::Answer;
 use gateway::Gateway;
 use gateway::Head;
@@ -75,7 +75,7 @@ pub extern "C" fn hrislanoth_number_of(block: Block) -> FlatNumber
 
 #[no_mangle]
 pub extern "C" fn hrislanoth_read(bytes: &[u8]) -> FlatReading
-    ensures { λ r. ⌜ r ≡ readingOf (readOf (now (bytes .entry))) ⌝ }
+    ensures { λ r. ⌜ r ≡ toldReading (readTold (now (bytes .entry))) ⌝ }
 {
     match message::read(bytes) {
         Reading::Read(m) => {
@@ -110,7 +110,7 @@ pub extern "C" fn hrislanoth_write(
     content: &[u8],
     out: &mut [u8],
 ) -> FlatWriting
-    ensures { λ w. ⌜ w ≡ writingOf (writeOf (messageFrom message) (now (content .entry)) (now (out .entry))) ⌝ }
+    ensures { λ w. ⌜ w ≡ toldWriting (writeTold (messageFrom message) (now (content .entry)) (now (out .entry))) ⌝ }
     ensures { λ _. ⌜ now (out .exit) ≡ outAfter (messageFrom message) (now (content .entry)) (now (out .entry)) ⌝ }
 {
     let m = Message {

@@ -7,12 +7,12 @@ use lib.Dec.{eqb}
 use lib.ListN.{length}
 use Rattle.range.specs.declared.Block.{Block}
 use Rattle.range.specs.Range.{isBlock}
-use Rattle.basics.specs.Lists.{any}
+use Rattle.basics.specs.Lists.{any, firstOr}
 use Rattle.basics.specs.Sets.{setOf, inSet}
 use Rattle.message.specs.declared.Reading.{Reading}
-use Rattle.message.specs.declared.Reading.the-variants.{Read, Refused}
 use Rattle.message.specs.declared.Saying.{Saying}
 use Rattle.message.specs.declared.Saying.the-variants.{Announcement, Nothing}
+use Rattle.message.specs.Reading.{readingTold}
 use Rattle.message.specs.Saying.{saidBy}
 use Rattle.gateway_rules.specs.declared.Line.{Line}
 use Rattle.gateway_rules.specs.State.{Gate, full}
@@ -59,8 +59,7 @@ lentRefusalKeeps h before a after = (a .refusal ≡ 0 → ⊥) → (a .marks ≡
 
 -- What is said by bytes that were read; a refusal says nothing.
 abbrev pub saidIn : Reading → Saying
-saidIn (Read m) = saidBy m
-saidIn (Refused n) = Nothing
+saidIn r = firstOr Nothing saidBy (readingTold r .value)
 
 -- The ports that want what is said, as a number.
 abbrev pub wantedBy : Gate → Saying → ℕ

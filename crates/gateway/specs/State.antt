@@ -1,5 +1,5 @@
 -- The rules' state from the code's: the lines stand in four lists, line i at place i of each.
-use Prim.Native.Nat.{ℕ}
+use Prim.Native.Nat.{ℕ, _<_}
 use mathlib.Core.Path.{_≡_}
 use mathlib.Core.Bool.{Bool, not}
 use mathlib.Core.List.{List}
@@ -64,6 +64,22 @@ Whole t = (length (t .nodes) ≡ full) × (length (t .starts) ≡ full) × (leng
 -- A line whose block is none.
 abbrev pub noBlock : Line → Bool
 noBlock l = not (isBlock (l .block))
+
+-- ---- the same state
+
+-- Heads and lists that differ only past the count (document 01, "Gateway": "Places past the line count aren't part of the state").
+pub record SameToTheCount (h : Head) (t : Lists) (k : Head) (u : Lists) : Type 0 where
+  pub ports : h .ports ≡ k .ports
+  pub automatic : h .automatic ≡ k .automatic
+  pub marks : h .marks ≡ k .marks
+  pub count : h .count ≡ k .count
+  pub places : (i : ℕ) → i < h .count → lineAt t i ≡ lineAt u i
+
+pub record SameLengths (t u : Lists) : Type 0 where
+  pub nodes : length (t .nodes) ≡ length (u .nodes)
+  pub starts : length (t .starts) ≡ length (u .starts)
+  pub ports : length (t .ports) ≡ length (u .ports)
+  pub sizes : length (t .sizes) ≡ length (u .sizes)
 
 -- ---- lent
 

@@ -4,37 +4,15 @@ use mathlib.Core.Path.{_≡_, refl, sym, ap, _∙_}
 use mathlib.Core.Bool.{Bool, true, false, cond, not, Bool·beq, _&&_, _||_, true≢false}
 use mathlib.Core.List.{List, [], _∷_}
 use borrow.Author.Tests.{eqb-true}
-use lib.Dec.{eqb, ltb}
+use lib.Dec.{eqb}
 use Rattle.basics.proofs.Bools.{both}
 use Rattle.message.specs.declared.Kind.{Kind}
 use Rattle.message.specs.declared.Kind.the-variants.{InitializationComplete, EventReport, IdentifyConsumer, IdentifyProducer, ConsumerIdentified, ProducerIdentified, ConsumerRangeIdentified, ProducerRangeIdentified, IdentifyEvents, LearnEvent, Other}
 use Rattle.message.specs.declared.Meaning.{Meaning}
-use Rattle.message.specs.Mti.{sameKind, Row, table, other, lookup, meaningOf, kindOf}
-
--- ---- which MTIs, by kind
-
-unfoldable pub mtisOf : Kind → List ℕ
-mtisOf InitializationComplete = 0x0100 ∷ 0x0110 ∷ []
-mtisOf EventReport = 0x05B4 ∷ 0x0F14 ∷ []
-mtisOf IdentifyConsumer = 0x08F4 ∷ []
-mtisOf IdentifyProducer = 0x0914 ∷ []
-mtisOf ConsumerIdentified = 0x04C4 ∷ 0x04C5 ∷ 0x04C7 ∷ []
-mtisOf ProducerIdentified = 0x0544 ∷ 0x0545 ∷ 0x0547 ∷ []
-mtisOf ConsumerRangeIdentified = 0x04A4 ∷ []
-mtisOf ProducerRangeIdentified = 0x0524 ∷ []
-mtisOf IdentifyEvents = 0x0970 ∷ 0x0968 ∷ []
-mtisOf LearnEvent = 0x0594 ∷ []
-mtisOf Other = []
-
-abbrev pub oneOf : List ℕ → ℕ → Bool
-oneOf [] m = false
-oneOf (k ∷ ks) m = eqb m k || oneOf ks m
+use Rattle.message.specs.Mti.{sameKind, Row, table, other, lookup, meaningOf, kindOf, oneOf, known}
+unfoldable pub use Rattle.message.specs.Mti.{mtisOf}
 
 -- ---- a question of the table and a list of MTIs that answer alike
-
-abbrev pub known : List Row → ℕ → Bool
-known [] m = false
-known (r ∷ rs) m = eqb m (r .mti) || known rs m
 
 abbrev alike : (Meaning → Bool) → (ℕ → Bool) → List Row → Bool
 alike f g [] = true
@@ -106,12 +84,3 @@ other-exactly m = alike-everywhere (λ (x : Meaning). sameKind Other (x .kind)) 
 pub not-identified : (kindOf 0x04C6 ≡ Other) × (kindOf 0x0546 ≡ Other)
 unfolding meaningOf
 not-identified = (refl, refl)
-
--- ---- content
-
--- The MTIs that ask for content.
-pub content-asked : (m : ℕ) → ltb 0 (meaningOf m .least) ≡ oneOf (0x0100 ∷ 0x0110 ∷ 0x0F14 ∷ []) m
-unfolding meaningOf
-content-asked m =
-    let asking : List ℕ = 0x0100 ∷ 0x0110 ∷ 0x0F14 ∷ [] in
-    alike-everywhere (λ (x : Meaning). ltb 0 (x .least)) (oneOf asking) table m refl (λ u. sym (unknown-not-one asking table m refl u))

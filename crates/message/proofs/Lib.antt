@@ -1,6 +1,7 @@
 pub mod Laws
 pub mod Readings
 pub mod Pieces
+pub mod Tellings
 pub mod Writings
 pub mod RoundTrips
 pub mod Exactly

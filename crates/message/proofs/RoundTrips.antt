@@ -13,7 +13,7 @@ use Rattle.message.specs.declared.Field.{Field}
 use Rattle.message.specs.declared.Field.the-variants.{Present, Absent}
 use Rattle.message.specs.declared.Message.{Message}
 use Rattle.message.specs.Mti.{addressed, carriesEvent, eventAt, contentAt, barred}
-use Rattle.message.specs.Messages.{fieldBytes, messageBytes, misplaced, badNode, badWherePresent, badNodes, badContent, otherSource, contentTests}
+use Rattle.message.specs.Messages.{fieldBytes, Below, messageBytes, misplaced, badNode, badWherePresent, badNodes, badContent, otherSource, contentTests}
 use Rattle.basics.specs.Refusals.{None}
 use Rattle.basics.specs.Refusals.None.{none, passed}
 use Rattle.message.specs.declared.Reading.the-variants.{Read}
@@ -74,10 +74,6 @@ number-at : (s ys : List ℕ) (at w x : ℕ) → drop at s ≡ bytesOf w x ++ ys
 number-at s ys at w x e h = ap numberIn (piece-at s (bytesOf w x) ys at w e (bytes-length w x)) ∙ number-of-bytes w x ∙ mod-eq-of-lt h
 
 -- A field that is where its flag says is read back.
-abbrev pub Below : ℕ → Field → Type 0
-Below n (Present x) = x < n
-Below n Absent = Unit {0}
-
 field-at : (flag : Bool) (f : Field) (s ys : List ℕ) (at w : ℕ) → misplaced flag f ≡ false → Below (256 ^ w) f → drop at s ≡ fieldBytes w f ++ ys → fieldAt flag s at w ≡ f
 field-at true (Present x) s ys at w p h e = ap Present (number-at s ys at w x e h)
 field-at false (Present x) s ys at w p h e = absurd (true≢false p)

@@ -11,9 +11,9 @@ use Rattle.message.specs.declared.Field.the-variants.{Present, Absent}
 use Rattle.message.specs.declared.Message.{Message}
 use Rattle.message.specs.declared.Saying.{Saying}
 use Rattle.message.specs.declared.Saying.the-variants.{Report, Announcement, Restart, Inquiry, InquiryForAll, Learn, Nothing}
-use Rattle.message.specs.Mti.{sameKind, isRestart, isReport, kindOf}
+use Rattle.message.specs.Mti.{sameKind, isRestart, isReport, kindOf, mtisOf, oneOf}
 use Rattle.message.specs.Saying.{producer, consumer, saying, saidBy}
-use Rattle.message.proofs.KindsOfMti.{mtisOf, oneOf, kind-exactly}
+use Rattle.message.proofs.KindsOfMti.{kind-exactly}
 
 -- ---- exactly which MTIs say what of an event
 

@@ -16,8 +16,9 @@ use Rattle.message.specs.declared.Writing.the-variants.{Written, NotWrit
 use Rattle.message.specs.Mti.{addressed, carriesEvent, contentAt, barred}
 use Rattle.basics.specs.Refusals.{refuse, firstOf, answered, None}
 use Rattle.message.specs.Messages.{fieldBytes, messageBytes, misplaced, badNodes, badContent, otherSource, contentTests}
-use Rattle.message.specs.Writing.{noRoom, writeTests, writeOf, overwritten, outAfter}
+use Rattle.message.specs.Writing.{noRoom, writeTests, writingTold, writeTold, writeOf, overwritten, outAfter}
 use Rattle.message.proofs.Laws.{Placed}
+use Rattle.message.proofs.Tellings.{write-told}
 use Rattle.basics.proofs.Firsts.{first-some, first-none, first-after, first-passed, rest-passed, answered-yes, answered-no}
 use Rattle.numbers.proofs.Pasting.{pasted-first}
 
@@ -60,15 +61,15 @@ content-placed m s e =
 
 -- ---- the answers
 
--- What a refusal's number answers and leaves.
+-- What a refusal's number tells and leaves.
 pub record Answers (n : ℕ) (m : Message) (s out : List ℕ) : Type 0 where
-  pub told : NotWritten n ≡ writeOf m s out
+  pub tells : writingTold (NotWritten n) ≡ writeTold m s out
   pub kept : out ≡ outAfter m s out
 
 refused : (n : ℕ) (m : Message) (s out : List ℕ) → (n ≡ 0 → ⊥) → firstOf (writeTests m s out) ≡ n → Answers n m s out
 unfolding writeOf outAfter
 refused n m s out p e = record {
-  told = sym (ap (λ (k : ℕ). answered Written NotWritten k (length (messageBytes m s))) e ∙ answered-no Written NotWritten n (length (messageBytes m s)) p);
+  tells = ap writingTold (sym (ap (λ (k : ℕ). answered Written NotWritten k (length (messageBytes m s))) e ∙ answered-no Written NotWritten n (length (messageBytes m s)) p)) ∙ write-told m s out;
   kept = sym (ap (λ (k : ℕ). answered (overwritten out) (λ _. out) k (messageBytes m s)) e ∙ answered-no (overwritten out) (λ _. out) n (messageBytes m s) p);
 }
 

@@ -1,5 +1,5 @@
 -- A message and its bytes (document 01, "Messages" and "Refusal numbers").
-use Prim.Native.Nat.{ℕ, _^_}
+use Prim.Native.Nat.{ℕ, _^_, _<_}
 use mathlib.Core.Bool.{Bool, false, not, _&&_, _||_}
 use mathlib.Core.List.{List, [], _∷_, _++_}
 use lib.Dec.{eqb, leb, ltb}
@@ -15,6 +15,11 @@ use Rattle.basics.specs.Refusals.{Test, refuse}
 abbrev pub fieldBytes : ℕ → Field → List ℕ
 fieldBytes w (Present x) = bytesOf w x
 fieldBytes w Absent = []
+
+-- A field whose number, where it is present, is below n.
+abbrev pub Below : ℕ → Field → Type 0
+Below n (Present x) = x < n
+Below n Absent = Unit {0}
 
 abbrev pub messageBytes : Message → List ℕ → List ℕ
 messageBytes m content = bytesOf 2 (m .mti) ++ (bytesOf 6 (m .source) ++ (fieldBytes 6 (m .destination) ++ (fieldBytes 8 (m .event) ++ content)))

@@ -109,3 +109,29 @@ meaningOf m = lookup table m
 
 abbrev pub kindOf : ℕ → Kind
 kindOf m = meaningOf m .kind
+
+-- ---- the table read by kind
+
+-- The MTIs of a kind; "other" is every MTI that is in no row.
+unfoldable pub mtisOf : Kind → List ℕ
+mtisOf InitializationComplete = 0x0100 ∷ 0x0110 ∷ []
+mtisOf EventReport = 0x05B4 ∷ 0x0F14 ∷ []
+mtisOf IdentifyConsumer = 0x08F4 ∷ []
+mtisOf IdentifyProducer = 0x0914 ∷ []
+mtisOf ConsumerIdentified = 0x04C4 ∷ 0x04C5 ∷ 0x04C7 ∷ []
+mtisOf ProducerIdentified = 0x0544 ∷ 0x0545 ∷ 0x0547 ∷ []
+mtisOf ConsumerRangeIdentified = 0x04A4 ∷ []
+mtisOf ProducerRangeIdentified = 0x0524 ∷ []
+mtisOf IdentifyEvents = 0x0970 ∷ 0x0968 ∷ []
+mtisOf LearnEvent = 0x0594 ∷ []
+mtisOf Other = []
+
+-- One of a list of MTIs.
+abbrev pub oneOf : List ℕ → ℕ → Bool
+oneOf [] m = false
+oneOf (k ∷ ks) m = eqb m k || oneOf ks m
+
+-- An MTI that has a row.
+abbrev pub known : List Row → ℕ → Bool
+known [] m = false
+known (r ∷ rs) m = eqb m (r .mti) || known rs m

@@ -1,7 +1,7 @@
 -- What reading a byte string answers (document 01, "Messages"; order of refusals when reading).
 use Prim.Native.Nat.{ℕ}
 use mathlib.Core.Bool.{Bool, cond}
-use mathlib.Core.List.{List, _∷_}
+use mathlib.Core.List.{List, [], _∷_}
 use lib.Dec.{ltb}
 use lib.ListN.{length, drop}
 use Rattle.numbers.specs.Numbers.{numberAt}
@@ -12,7 +12,7 @@ use Rattle.message.specs.declared.Reading.{Reading}
 use Rattle.message.specs.declared.Reading.the-variants.{Read, Refused}
 use Rattle.message.specs.Mti.{addressed, carriesEvent, eventAt, contentAt, barred}
 use Rattle.message.specs.Messages.{contentTests}
-use Rattle.basics.specs.Refusals.{Test, refuse, firstOf, answered}
+use Rattle.basics.specs.Refusals.{Test, refuse, firstOf, answered, Told, told, refused, toldBy}
 
 abbrev pub fieldAt : Bool → List ℕ → ℕ → ℕ → Field
 fieldAt flag s at w = cond flag (Present (numberAt s at w)) Absent
@@ -46,10 +46,19 @@ missesFields s = ltb (length s) (contentAt (mtiIn s))
 abbrev pub readTests : List ℕ → List Test
 readTests s = refuse 1 (short s) ∷ refuse 2 (barred (mtiIn s)) ∷ refuse 1 (missesFields s) ∷ contentTests (messageIn s) (contentIn s)
 
-unfoldable pub readOf : List ℕ → Reading
-readOf s = answered Read Refused (firstOf (readTests s)) (messageIn s)
+-- Document 01's number and values for each case of the answer: 0 and the message, or the refusal's number and nothing beside it.
+abbrev pub readingTold : Reading → Told (List Message)
+readingTold (Read m) = told (m ∷ [])
+readingTold (Refused n) = refused n []
 
 -- A refusal's number, 0 for a message.
 abbrev pub refusedWith : Reading → ℕ
-refusedWith (Read m) = 0
-refusedWith (Refused n) = n
+refusedWith r = readingTold r .refusal
+
+-- What reading a byte string tells.
+unfoldable pub readTold : List ℕ → Told (List Message)
+readTold s = toldBy (readTests s) (messageIn s)
+
+-- The one answer that tells so.
+unfoldable pub readOf : List ℕ → Reading
+readOf s = answered Read Refused (firstOf (readTests s)) (messageIn s)

@@ -9,7 +9,7 @@ use Rattle.message.specs.declared.Writing.{Writing}
 use Rattle.message.specs.declared.Writing.the-variants.{Written, NotWritten}
 use Rattle.message.specs.Mti.{barred}
 use Rattle.message.specs.Messages.{messageBytes, contentTests}
-use Rattle.basics.specs.Refusals.{Test, refuse, firstOf, answered}
+use Rattle.basics.specs.Refusals.{Test, refuse, firstOf, answered, Told, told, refused, toldBy}
 
 -- Refusal 6: the output is shorter than what must be written.
 abbrev pub noRoom : Message → List ℕ → List ℕ → Bool
@@ -19,7 +19,16 @@ noRoom m content out = ltb (length out) (length (messageBytes m content))
 abbrev pub writeTests : Message → List ℕ → List ℕ → List Test
 writeTests m content out = refuse 2 (barred (m .mti)) ∷ (contentTests m content ++ (refuse 6 (noRoom m content out) ∷ []))
 
--- An accepted write answers the number of bytes written.
+-- Document 01's number and values for each case of the answer: 0 and how many bytes were written, or the refusal's number and nothing beside it.
+abbrev pub writingTold : Writing → Told (List ℕ)
+writingTold (Written n) = told (n ∷ [])
+writingTold (NotWritten n) = refused n []
+
+-- What writing a message tells.
+unfoldable pub writeTold : Message → List ℕ → List ℕ → Told (List ℕ)
+writeTold m content out = toldBy (writeTests m content out) (length (messageBytes m content))
+
+-- The one answer that tells so.
 unfoldable pub writeOf : Message → List ℕ → List ℕ → Writing
 writeOf m content out = answered Written NotWritten (firstOf (writeTests m content out)) (length (messageBytes m content))
 

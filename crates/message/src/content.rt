@@ -60,20 +60,12 @@ pub(crate) fn content_refusal(code: u16, source: u64, content: &[u8]) -> u8
     }
 }
 
-// Most messages have no content: they need not be looked up in the table.
+// The refusal where there is no content. Only the table's least is asked, of which the compiler makes a test of the few MTIs that have one.
 pub(crate) fn empty_refusal(code: u16) -> u8
     ensures { λ r. ⌜ r ≡ cond (ltb 0 (meaningOf code .least)) 4 0 ⌝ }
 {
-    if code == 0x0100 {
-        return 4;
-    }
-    if code == 0x0110 {
-        return 4;
-    }
-    if code == 0x0F14 {
-        return 4;
-    }
-    0
+    let meaning = mti::meaning_of(code);
+    if 0 < meaning.least { 4 } else { 0 }
 }
 
 // Refusal 3: a Node ID that is zero or above 48 bits.

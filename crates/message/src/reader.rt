@@ -4,7 +4,7 @@ ghost use Prim.Native.Nat.{_≤_};
 ghost use Rattle.basics.specs.Refusals.{firstOf};
 ghost use Rattle.message.specs.Mti.{addressed};
 ghost use Rattle.message.specs.Messages.{badWherePresent};
-ghost use Rattle.message.specs.Reading.{fieldAt, fieldsIn, readTests, readOf, refusedWith};
+ghost use Rattle.message.specs.Reading.{fieldAt, fieldsIn, readTests, readingTold, readTold, refusedWith};
 use crate::Field;
 use crate::Message;
 use crate::Reading;
@@ -13,7 +13,7 @@ use crate::mti;
 
 // The message that the bytes hold, or the refusal.
 pub fn read(bytes: &[u8]) -> Reading
-    ensures { λ r. ⌜ r ≡ readOf (now (bytes .entry)) ⌝ }
+    ensures { λ r. ⌜ readingTold r ≡ readTold (now (bytes .entry)) ⌝ }
 {
     let refusal = refusal_in(bytes);
     if refusal != 0 {

@@ -5,7 +5,7 @@ ghost use mathlib.Core.List.{_++_};
 ghost use lib.ListN.{length};
 ghost use Rattle.numbers.specs.Numbers.{bytesOf, pasted};
 ghost use Rattle.message.specs.Messages.{fieldBytes, messageBytes};
-ghost use Rattle.message.specs.Writing.{writeOf, outAfter};
+ghost use Rattle.message.specs.Writing.{writingTold, writeTold, outAfter};
 use crate::Field;
 use crate::Message;
 use crate::Writing;
@@ -14,7 +14,7 @@ use crate::mti;
 
 // Writes the message with its content to the start of out, and answers how many bytes it took, or the refusal.
 pub fn write(message: Message, body: &[u8], out: &mut [u8]) -> Writing
-    ensures { λ r. ⌜ r ≡ writeOf message (now (body .entry)) (now (out .entry)) ⌝ }
+    ensures { λ r. ⌜ writingTold r ≡ writeTold message (now (body .entry)) (now (out .entry)) ⌝ }
     ensures { λ _. ⌜ now (out .exit) ≡ outAfter message (now (body .entry)) (now (out .entry)) ⌝ }
 {
     let code = message.mti;

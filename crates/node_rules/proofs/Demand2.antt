@@ -25,7 +25,7 @@ use Rattle.node_rules.specs.Calls.{Outcome, accepting, refusing, noMatch
 use Rattle.node_rules.specs.Histories.{Made, givenBy, doneBy, done, Done, after, log, messagesIn, isOf, wrote, New, isInitialise, restarts, IdentifiedSince}
 use Rattle.node_rules.proofs.Pieces.{producer-kind, no-report-kind}
 use Rattle.node_rules.proofs.Marking.{like, like-same, Kept, advertising-marks, advertising-keeps}
-use Rattle.node_rules.proofs.Steps.{Happened, happened, written-read}
+use Rattle.node_rules.proofs.Steps.{Happened, happened, sent-read, written-read}
 use Rattle.node_rules.proofs.Steps.Happened.{refused, restarts as restarting, identifies, reports, sets}
 
 -- ---- calls that grow at the end
@@ -124,7 +124,7 @@ module _ (start : Board) where
       identified = λ i r m o.
           subst (λ (e : ℕ). IdentifiedSince e (h ++ (d ∷ []))) (sym (event i))
           (⊎-elim (λ old. later h d (eventOf (b .slots) i) (not-restarted d f) (p .identified i (role i r) old (ap (inBlock (start .node .automatic)) (sym (event i)) ∙ o)))
-          (λ new. now-identified h d (eventOf (b .slots) i) (ap (any (says ProducerIdentified (eventOf (b .slots) i))) (written-read b c (p .fit) (identifies js matches f g s)) ∙ producer-said b js i (role i r) new))
+          (λ new. now-identified h d (eventOf (b .slots) i) (ap (any (says ProducerIdentified (eventOf (b .slots) i))) (sent-read b c (p .fit) (identifies js matches f g s)) ∙ producer-said b js i (role i r) new))
           (advertising-marks js (b .slots) i m));
     }
       where
@@ -174,8 +174,7 @@ pub reports-identified : (start : Board) → New start → (before : List Made) 
 reports-identified start n before c e outside w =
     let b = after start before in
     let p = holds-always start n before in
-    let h = made b c in
-    report-identified start e outside p h (ap (any (says EventReport e)) (sym (written-read b c (p .fit) h)) ∙ w)
+    report-identified start e outside p (made b c) (ap (any (says EventReport e)) (sym (written-read b c (p .fit))) ∙ w)
 
 -- While a node is not Initialized, it writes no message but Initialization Complete.
 module _ (b : Board) (quiet : eqb (b .node .state) initialized ≡ false) where
@@ -188,4 +187,4 @@ module _ (b : Board) (quiet : eqb (b .node .state) initialized ≡ false) where
   complete-only (sets i status f) = refl
 
   pub only-complete : ((i : ℕ) → eventOf (b .slots) i < 2 ^ 64) → (c : Made) → any (λ m. not (isRestart (kindOf (m .mti)))) (messagesIn (done b c .bytes)) ≡ false
-  only-complete fit c = let h = made b c in ap (any _) (written-read b c fit h) ∙ complete-only h
+  only-complete fit c = ap (any _) (written-read b c fit) ∙ complete-only (made b c)

@@ -16,22 +16,23 @@ use Rattle.message.specs.declared.Kind.the-variants.{EventReport, ConsumerIdent
 use Rattle.message.specs.declared.Message.{Message}
 use Rattle.message.specs.declared.Reading.the-variants.{Read}
 use Rattle.message.specs.Mti.{addressed, carriesEvent, barred, contentAt, sameKind, kindOf, isRestart, meaningOf}
-use Rattle.message.specs.Messages.{badNode, messageBytes, contentTests}
-use Rattle.basics.specs.Refusals.{firstOf}
-use Rattle.message.specs.Reading.{fieldsIn, mtiIn, messageIn, readOf}
+use Rattle.message.specs.Messages.{badNode, Below, messageBytes, contentTests}
+use Rattle.basics.specs.Refusals.{firstOf, Told, told}
+use Rattle.message.specs.Reading.{fieldsIn, mtiIn, messageIn, readingTold, readTold, readOf}
 use Rattle.message.specs.Writing.{outAfter}
 use Rattle.message.proofs.Exactly.{read-accepted, accepted-leaves}
 use Rattle.message.proofs.Laws.{Placed, nodes-good, content-good, source-any, source-same}
-use Rattle.message.proofs.RoundTrips.{Below, write-then-read}
+use Rattle.message.proofs.RoundTrips.{write-then-read}
+use Rattle.message.proofs.Tellings.{read-told}
 use Rattle.message.proofs.Writings.{message-length, write-done}
 use Rattle.message.specs.Saying.{producer}
 use Rattle.node_rules.specs.Boards.{valid, invalid}
 use Rattle.node_rules.specs.Sending.{completeBy, withEvent, contentOf, wholeBytes, Plain, allBytes, identifiedMti}
-use Rattle.node_rules.specs.Histories.{firstEnd, readOut, messagesUpTo, messagesIn}
+use Rattle.node_rules.specs.Histories.{firstEnd, messagesUpTo, messagesIn}
 
 -- A message that is read from its bytes, and known to end where they do, whatever follows.
 pub record Readable (m : Message) : Type 0 where
-  pub back : readOf (wholeBytes m) ≡ Read m
+  pub back : readTold (wholeBytes m) ≡ told (m ∷ [])
   pub ends : firstEnd (wholeBytes m) ≡ length (wholeBytes m)
   pub long : 2 ≤ length (wholeBytes m)
 
@@ -62,9 +63,9 @@ read-all zero (m ∷ ms) r h = absurd (not-suc-le-zero h)
 read-all (suc n) (m ∷ ms) (also r rs) h =
     let s = wholeBytes m ++ allBytes ms in
     let some : length s ≡ 0 → ⊥ = λ z. omega (arith, z, length-append (wholeBytes m) (allBytes ms), r .long) in
-    ap (λ (t : Bool). cond t [] (readOut (readOf (take (firstEnd s) s)) ++ messagesUpTo n (drop (firstEnd s) s))) (ne-eqb (length s) 0 some)
-    ∙ ap₂ (λ (p q : List ℕ). readOut (readOf p) ++ messagesUpTo n q) (first-piece m r (allBytes ms)) (first-rest m r (allBytes ms))
-    ∙ ap (λ (x : List Message). x ++ messagesUpTo n (allBytes ms)) (ap readOut (r .back))
+    ap (λ (t : Bool). cond t [] (readTold (take (firstEnd s) s) .value ++ messagesUpTo n (drop (firstEnd s) s))) (ne-eqb (length s) 0 some)
+    ∙ ap₂ (λ (p q : List ℕ). readTold p .value ++ messagesUpTo n q) (first-piece m r (allBytes ms)) (first-rest m r (allBytes ms))
+    ∙ ap (λ (x : List Message). x ++ messagesUpTo n (allBytes ms)) (ap (λ (x : Told (List Message)). x .value) (r .back))
     ∙ ap (λ (x : List Message). m ∷ x) (read-all n ms rs (le-of-suc-le-suc h))
 
 fewer : (ms : List Message) → AllReadable ms → length ms ≤ length (allBytes ms)
@@ -93,7 +94,7 @@ readable m small below free good ends long =
     let back : readOf s ≡ Read m = ap readOf (sym bytes) ∙ write-then-read m (contentOf m) s (length s) small below written .0 in
     let mti : m .mti ≡ mtiIn s = ap (λ (x : Message). x .mti) (read-accepted s m .0 back .1) ∙ mti-of s in
     record {
-      back = back;
+      back = sym (read-told s) ∙ ap readingTold back;
       ends = ap (λ (k : ℕ). contentAt k + meaningOf k .least) (sym mti) ∙ ends;
       long = long;
     }

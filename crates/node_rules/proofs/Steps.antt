@@ -20,7 +20,7 @@ use Rattle.message.specs.Saying.{producer}
 use Rattle.node_rules.specs.Sending.{completeBy, report, allBytes, identifying}
 use Rattle.node_rules.specs.Hearing.{heardBy, chosen, answering}
 use Rattle.node_rules.specs.Calls.{Outcome, accepting, refusing, noMatch, restarted, identifyingAll, withStatus, heardIn, matching, accepted, boardTests, slotTests, testsOf, outcome}
-use Rattle.node_rules.specs.Histories.{Made, doneBy, messagesIn, isInitialise}
+use Rattle.node_rules.specs.Histories.{Made, givenBy, doneBy, done, messagesIn, isInitialise}
 use Rattle.node_rules.proofs.Pieces.{AllReadable, messages-back, plain-readable, complete-readable, report-plain, identified-plain}
 use Rattle.node_rules.proofs.Pieces.AllReadable.{none, also}
 
@@ -91,7 +91,11 @@ all-readable {b = b} fit (identifies js matches i h s) = all-identified b js h f
 all-readable {b = b} fit (reports i f h s r m) = also (plain-readable report-plain (b .node .id) (eventOf (b .slots) i) h (fit i)) none
 all-readable fit (sets i status f) = none
 
-pub written-read : (b : Board) (c : Made) {o : Outcome} → ((i : ℕ) → eventOf (b .slots) i < 2 ^ 64) → Happened b (c .call) o → messagesIn (doneBy c o .bytes) ≡ o .sent
-written-read b c {o = o} fit h =
+pub sent-read : (b : Board) (c : Made) {o : Outcome} → ((i : ℕ) → eventOf (b .slots) i < 2 ^ 64) → Happened b (c .call) o → messagesIn (doneBy c o .bytes) ≡ o .sent
+sent-read b c {o = o} fit h =
     let bytes = allBytes (o .sent) in
     ap messagesIn (take-append-seam bytes (drop (length bytes) (c .out))) ∙ messages-back (o .sent) (all-readable fit h)
+
+-- The bytes that a call gave are read back as exactly the messages that it sent.
+pub written-read : (b : Board) (c : Made) → ((i : ℕ) → eventOf (b .slots) i < 2 ^ 64) → messagesIn (done b c .bytes) ≡ givenBy b c .sent
+written-read b c fit = sent-read b c fit (happened b (c .call) (c .bytes) (length (c .out)))

@@ -9,7 +9,7 @@ use Rattle.numbers.specs.Numbers.{spelled, bytesOf}
 use Rattle.message.specs.declared.Kind.the-variants.{EventReport}
 use Rattle.message.specs.Mti.{meaningOf}
 use Rattle.message.specs.Messages.{badNodes, badContent, otherSource}
-use Rattle.message.specs.Reading.{fieldsIn, readOf}
+use Rattle.message.specs.Reading.{fieldsIn, readTold}
 use Rattle.message.specs.Saying.{saidBy}
 use Rattle.node_rules.specs.declared.Call.{Call}
 use Rattle.node_rules.specs.declared.Call.the-variants.{Initialise, Announce, Produce, Receive}
@@ -69,7 +69,7 @@ abbrev twoCalls : List Made
 twoCalls = made Initialise 14 ∷ made (Announce 0) 16 ∷ []
 
 reported : wrote EventReport event (done (after board twoCalls) (made (Produce 1) 16)) ≡ true
-unfolding outcome outOfBounds hasNumber isBlock inBlock each identifiedMti messagesUpTo meaningOf readOf fieldsIn badNodes badContent otherSource spelled bytesOf
+unfolding outcome outOfBounds hasNumber isBlock inBlock each identifiedMti messagesUpTo meaningOf readTold fieldsIn badNodes badContent otherSource spelled bytesOf
 reported = refl
 
 outside : inBlock (board .node .automatic) event ≡ false

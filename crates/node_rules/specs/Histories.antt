@@ -12,10 +12,8 @@ use Rattle.message.specs.declared.Kind.the-variants.{ProducerIdentified}
 use Rattle.message.specs.declared.Field.{Field}
 use Rattle.message.specs.declared.Field.the-variants.{Present, Absent}
 use Rattle.message.specs.declared.Message.{Message}
-use Rattle.message.specs.declared.Reading.{Reading}
-use Rattle.message.specs.declared.Reading.the-variants.{Read, Refused}
 use Rattle.message.specs.Mti.{sameKind, kindOf, meaningOf, contentAt}
-use Rattle.message.specs.Reading.{mtiIn, readOf}
+use Rattle.message.specs.Reading.{mtiIn, readTold}
 use Rattle.message.specs.Writing.{overwritten}
 use Rattle.node_rules.specs.declared.Call.{Call}
 use Rattle.node_rules.specs.declared.Call.the-variants.{Initialise, Announce, Produce, SetStatus, Receive}
@@ -65,14 +63,10 @@ log b (c ∷ cs) = done b c ∷ log (givenBy b c .next) cs
 abbrev pub firstEnd : List ℕ → ℕ
 firstEnd s = contentAt (mtiIn s) + meaningOf (mtiIn s) .least
 
-abbrev pub readOut : Reading → List Message
-readOut (Read m) = m ∷ []
-readOut (Refused n) = []
-
 -- At most n messages, one after another.
 unfoldable pub messagesUpTo : ℕ → List ℕ → List Message
 messagesUpTo zero s = []
-messagesUpTo (suc n) s = cond (eqb (length s) 0) [] (readOut (readOf (take (firstEnd s) s)) ++ messagesUpTo n (drop (firstEnd s) s))
+messagesUpTo (suc n) s = cond (eqb (length s) 0) [] (readTold (take (firstEnd s) s) .value ++ messagesUpTo n (drop (firstEnd s) s))
 
 abbrev pub messagesIn : List ℕ → List Message
 messagesIn s = messagesUpTo (length s) s

@@ -15,7 +15,8 @@ use Rattle.numbers.specs.Bits.{bit}
 use Rattle.range.specs.Range.{run, isBlock, inBlock, last, single, blockOf, hasNumber, numberOf, sameBlock}
 use Rattle.range.specs.declared.Answer.{Answer}
 use Rattle.range.specs.declared.RangeNumber.{RangeNumber}
-use Rattle.range.specs.Answer.{Told, told, refused, yesOrNo, rangeNumber, numberTold, holdsTold, sameTold}
+use Rattle.basics.specs.Refusals.{Told, told, refused}
+use Rattle.range.specs.Answer.{yesOrNo, rangeNumber, numberTold, holdsTold, sameTold}
 use Rattle.range.proofs.Runs.{run-of, zeros-divide}
 
 -- ---- what a block is

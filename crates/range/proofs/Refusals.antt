@@ -12,7 +12,8 @@ use Rattle.range.specs.declared.Answer.{Answer}
 use Rattle.range.specs.declared.Answer.the-variants.{Yes, No, NoBlock}
 use Rattle.range.specs.declared.RangeNumber.{RangeNumber}
 use Rattle.range.specs.declared.RangeNumber.the-variants.{Number, NoNumber}
-use Rattle.range.specs.Answer.{yesOrNo, rangeNumber, Told, told, refused, numberTold, holdsTold, sameTold, Barred, Unnumbered}
+use Rattle.basics.specs.Refusals.{Told, told, refused}
+use Rattle.range.specs.Answer.{yesOrNo, rangeNumber, numberTold, holdsTold, sameTold, Barred, Unnumbered}
 
 -- A test that is not passed is answered by 14, and nothing else is.
 given-when : {A : Type 0} (t : Bool) (x none : A) → (cond t (told x) (refused 14 none) .refusal ≡ 14) ↔ (t ≡ false)

@@ -3,22 +3,13 @@ use Prim.Native.Nat.{ℕ, _%_, _^_, _<_}
 use mathlib.Core.Path.{_≡_}
 use mathlib.Core.Logic.{_⊎_}
 use mathlib.Core.Bool.{Bool, true, false, cond, _&&_}
+use Rattle.basics.specs.Refusals.{Told, told, refused}
 use Rattle.range.specs.declared.Block.{Block}
 use Rattle.range.specs.declared.Answer.{Answer}
 use Rattle.range.specs.declared.Answer.the-variants.{Yes, No, NoBlock}
 use Rattle.range.specs.declared.RangeNumber.{RangeNumber}
 use Rattle.range.specs.declared.RangeNumber.the-variants.{Number, NoNumber}
 use Rattle.range.specs.Range.{isBlock, inBlock, hasNumber, numberOf, sameBlock}
-
-pub record Told (A : Type 0) : Type 0 where
-  pub refusal : ℕ
-  pub value : A
-
-abbrev pub told : {A : Type 0} → A → Told A
-told v = record { refusal = 0; value = v }
-
-abbrev pub refused : {A : Type 0} → ℕ → A → Told A
-refused n none = record { refusal = n; value = none }
 
 abbrev pub yesOrNo : Answer → Told Bool
 yesOrNo Yes = told true

@@ -1,9 +1,9 @@
 use mathlib.Core.Path.{_≡_, sym, ap, _∙_}
 use Rattle.message.specs.declared.Field.{Field}
 use Rattle.message.specs.declared.Message.{Message}
-use Rattle.message.specs.Writing.{writeOf, outAfter}
+use Rattle.message.specs.Writing.{writingTold, writeTold, outAfter}
 use Rattle.c_face.specs.declared.FlatMessage.{FlatMessage}
-use Rattle.c_face.specs.Flat.{fieldOf, messageFrom, writingOf}
+use Rattle.c_face.specs.Flat.{fieldOf, messageFrom, toldWriting}
 use borrow.Author.Needs.{needs}
 use Rattle.c_face.proofs.hrislanoth_write.Statement.{statement}
 use Rattle.c_face.proofs.hrislanoth_write.Tie as tie
@@ -32,13 +32,13 @@ same-length : tie.Need-same-length
 same-length c = search needs
 
 returns : tie.Need-returns
-returns c = let same = same-message (c .before .before .before .before .before .before .before .before .before .before .before .args .message) (c .before .before .before .before .before .before .before .before .field .ensures) (c .before .before .before .before .before .before .before .field2 .ensures) in (ap writingOf (sym (c .before .bytes .given .1) ∙ c .before .before .before .before .before .write .ensures .0 ∙ ap (λ (m : Message). writeOf m (c .before .before .before .before .before .before .before .before .before .before .before .args .content .now) (c .before .before .before .before .before .before .before .before .before .before .before .args .out .now)) same), c .before .before .before .before .before .write .ensures .1 ∙ ap (λ (m : Message). outAfter m (c .before .before .before .before .before .before .before .before .before .before .before .args .content .now) (c .before .before .before .before .before .before .before .before .before .before .before .args .out .now)) same)
+returns c = let same = same-message (c .before .before .before .before .before .before .before .before .before .before .before .args .message) (c .before .before .before .before .before .before .before .before .field .ensures) (c .before .before .before .before .before .before .before .field2 .ensures) in (ap toldWriting (ap writingTold (sym (c .before .bytes .given .1)) ∙ c .before .before .before .before .before .write .ensures .0 ∙ ap (λ (m : Message). writeTold m (c .before .before .before .before .before .before .before .before .before .before .before .args .content .now) (c .before .before .before .before .before .before .before .before .before .before .before .args .out .now)) same), c .before .before .before .before .before .write .ensures .1 ∙ ap (λ (m : Message). outAfter m (c .before .before .before .before .before .before .before .before .before .before .before .args .content .now) (c .before .before .before .before .before .before .before .before .before .before .before .args .out .now)) same)
 
 same-length-2 : tie.Need-same-length-2
 same-length-2 c = search needs
 
 returns-2 : tie.Need-returns-2
-returns-2 c = let same = same-message (c .before .before .before .before .before .before .before .before .before .before .before .args .message) (c .before .before .before .before .before .before .before .before .field .ensures) (c .before .before .before .before .before .before .before .field2 .ensures) in (ap writingOf (sym (c .before .refusal .given .1) ∙ c .before .before .before .before .before .write .ensures .0 ∙ ap (λ (m : Message). writeOf m (c .before .before .before .before .before .before .before .before .before .before .before .args .content .now) (c .before .before .before .before .before .before .before .before .before .before .before .args .out .now)) same), c .before .before .before .before .before .write .ensures .1 ∙ ap (λ (m : Message). outAfter m (c .before .before .before .before .before .before .before .before .before .before .before .args .content .now) (c .before .before .before .before .before .before .before .before .before .before .before .args .out .now)) same)
+returns-2 c = let same = same-message (c .before .before .before .before .before .before .before .before .before .before .before .args .message) (c .before .before .before .before .before .before .before .before .field .ensures) (c .before .before .before .before .before .before .before .field2 .ensures) in (ap toldWriting (ap writingTold (sym (c .before .refusal .given .1)) ∙ c .before .before .before .before .before .write .ensures .0 ∙ ap (λ (m : Message). writeTold m (c .before .before .before .before .before .before .before .before .before .before .before .args .content .now) (c .before .before .before .before .before .before .before .before .before .before .before .args .out .now)) same), c .before .before .before .before .before .write .ensures .1 ∙ ap (λ (m : Message). outAfter m (c .before .before .before .before .before .before .before .before .before .before .before .args .content .now) (c .before .before .before .before .before .before .before .before .before .before .before .args .out .now)) same)
 
 pub hrislanoth-write-spec : {M : Type 1} → statement M
 hrislanoth-write-spec =

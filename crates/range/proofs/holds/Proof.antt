@@ -5,7 +5,7 @@ use native.Mathlib.Omega.{arith}
 use borrow.Author.Tests.{eq-eqb, ne-eqb}
 use borrow.Author.Needs.{needs}
 use Rattle.range.specs.Range.{isBlock}
-use Rattle.range.specs.Answer.{told}
+use Rattle.basics.specs.Refusals.{told}
 use Rattle.range.proofs.Laws.{block-too-wide, prefix-block, in-block-above, holds-told, holds-refused}
 use Rattle.range.proofs.holds.Statement.{statement}
 use Rattle.range.proofs.holds.Tie as tie

@@ -7,7 +7,8 @@ use borrow.Author.Needs.{needs}
 use lib.Bits.{bitOr}
 use Rattle.range.specs.declared.Block.{Block}
 use Rattle.range.specs.Range.{isBlock, numberOf}
-use Rattle.range.specs.Answer.{told, numberTold}
+use Rattle.basics.specs.Refusals.{told}
+use Rattle.range.specs.Answer.{numberTold}
 use Rattle.range.proofs.Masks.{ones-below}
 use Rattle.basics.proofs.Bools.{refuted, passed}
 use Rattle.range.proofs.Laws.{block-parts, number-told, number-refused, single-no-number, no-block-no-number, number-ones, number-zeros, number-whole}

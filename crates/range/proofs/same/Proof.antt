@@ -4,7 +4,7 @@ use mathlib.Core.Bool.{Bool, _&&_}
 use borrow.Author.Needs.{needs}
 use Rattle.range.specs.declared.Block.{Block}
 use Rattle.range.specs.Range.{isBlock}
-use Rattle.range.specs.Answer.{told}
+use Rattle.basics.specs.Refusals.{told}
 use Rattle.range.proofs.Laws.{same-told, same-refused, same-block}
 use Rattle.range.proofs.same.Statement.{statement}
 use Rattle.range.proofs.same.Tie as tie

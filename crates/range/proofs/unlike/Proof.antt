@@ -4,7 +4,7 @@ use mathlib.Core.Bool.{Bool, _&&_, and-false}
 use borrow.Author.Needs.{needs}
 use Rattle.basics.proofs.Bools.{refuted, passed}
 use Rattle.range.specs.Range.{isBlock}
-use Rattle.range.specs.Answer.{told}
+use Rattle.basics.specs.Refusals.{told}
 use Rattle.range.proofs.Laws.{same-told, same-refused, same-differ}
 use Rattle.range.proofs.unlike.Statement.{statement}
 use Rattle.range.proofs.unlike.Tie as tie

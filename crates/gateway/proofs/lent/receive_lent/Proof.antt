@@ -4,6 +4,7 @@ use mathlib.Core.Bool.{false}
 use mathlib.Core.Path.{_≡_, refl, sym, ap, _∙_}
 use borrow.Author.Needs.{needs}
 use denote.Ref.{now}
+use Rattle.message.proofs.Tellings.{read-once}
 use Rattle.gateway_rules.specs.State.{Gate, outOfBounds}
 use Rattle.gateway_rules.specs.Step.{hear, step}
 use Rattle.gateway_rules.proofs.Said.{announcement-block}
@@ -153,7 +154,7 @@ returns-5 c =
     let p = start (first three) in
     let a = p .args in
     let n = c .before .refused-with in
-    let refuses = step-refuses (a .head) (table p) (a .port) (now (a .bytes)) (inside three) (c .before .before .before .before .if4 .left) _ (n .result) (three .before .before .before .before .before .before .before .read .ensures) (c .before .before .enum-told .given .1) (n .ensures) in
+    let refuses = step-refuses (a .head) (table p) (a .port) (now (a .bytes)) (inside three) (c .before .before .before .before .if4 .left) _ (n .result) (read-once _ (now (a .bytes)) (three .before .before .before .before .before .before .before .read .ensures)) (c .before .before .enum-told .given .1) (n .ensures) in
     refusal-given (a .head) (table p) (a .port) (now (a .bytes)) (c .refused5 .result) (n .result) (c .refused5 .ensures) (stepped (first three) ∙ refuses)
 
 others-requires : tie.Need-others-requires
@@ -190,7 +191,7 @@ returns-6 c =
     let said = three .before .before .before .before .before .before .said-in .ensures ∙ ap saidIn (read .1) in
     let sent = c .before .before .before .before .before .before .before .before .before .before .before .before .before .others .ensures ∙ sent-wanted (a .head) (table p) (a .port) m (passed .result .wanted) (passed .ensures .1 (three .if3 .left) ∙ ap (wantedBy (gate p)) said) in
     let heard = c .before .before .before .before .before .before .before .before .hear .ensures ∙ ap (hear (gate p) (a .port) (m .source)) said ∙ heard-taken (gate p) (a .port) m in
-    let takes = step-takes (a .head) (table p) (a .port) (now (a .bytes)) (inside three) (taken .before .before .if4 .left) m (sym (three .before .before .before .before .before .before .before .read .ensures) ∙ read .1) in
+    let takes = step-takes (a .head) (table p) (a .port) (now (a .bytes)) (inside three) (taken .before .before .if4 .left) m (sym (read-once _ (now (a .bytes)) (three .before .before .before .before .before .before .before .read .ensures)) ∙ read .1) in
     (seen sent heard ∙ ap seenOf (sym (stepped (first three) ∙ takes)), λ refused. absurd (refused refl))
 
 pub receive-lent-spec : {M : Type 1} → statement M

@@ -7,7 +7,8 @@ use Rattle.range.specs.declared.Block.{Block}
 use Rattle.range.specs.declared.Answer.{Answer}
 use Rattle.range.specs.declared.Answer.the-variants.{Yes, No, NoBlock}
 use Rattle.range.specs.Range.{isBlock, sameBlock}
-use Rattle.range.specs.Answer.{Told, yesOrNo, sameTold}
+use Rattle.basics.specs.Refusals.{Told}
+use Rattle.range.specs.Answer.{yesOrNo, sameTold}
 use Rattle.range.proofs.Laws.{same-told}
 use Rattle.gateway.proofs.lines.same_line.Statement.{statement}
 use Rattle.gateway.proofs.lines.same_line.Tie as tie

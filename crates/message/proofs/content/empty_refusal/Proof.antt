@@ -1,20 +1,17 @@
--- Only these three MTIs ask for content.
-use borrow.Author.Tests.{eq-eqb, ne-eqb}
-use Rattle.message.proofs.KindsOfMti.{content-asked}
+-- No content is too little where the table's least is above it.
+use borrow.Author.Tests.{lt-ltb, le-ltb}
+use borrow.Author.Needs.{needs}
 use Rattle.message.proofs.content.empty_refusal.Statement.{statement}
 use Rattle.message.proofs.content.empty_refusal.Tie as tie
 
+meaning-of-requires : tie.Need-meaning-of-requires
+meaning-of-requires c κs = search needs
+
 returns : tie.Need-returns
-returns c = let m = c .before .args .code in rw (content-asked m, eq-eqb m 0x0100 (c .if1 .taken))
+returns c = let m = c .before .before .meaning-of in rw (← m .ensures, lt-ltb 0 (m .result .least) (c .if1 .taken))
 
 returns-2 : tie.Need-returns-2
-returns-2 c = let m = c .before .before .args .code in rw (content-asked m, ne-eqb m 0x0100 (c .before .if1 .left), eq-eqb m 0x0110 (c .if2 .taken))
-
-returns-3 : tie.Need-returns-3
-returns-3 c = let m = c .before .before .before .args .code in rw (content-asked m, ne-eqb m 0x0100 (c .before .before .if1 .left), ne-eqb m 0x0110 (c .before .if2 .left), eq-eqb m 0x0F14 (c .if3 .taken))
-
-returns-4 : tie.Need-returns-4
-returns-4 c = let m = c .before .before .before .args .code in rw (content-asked m, ne-eqb m 0x0100 (c .before .before .if1 .left), ne-eqb m 0x0110 (c .before .if2 .left), ne-eqb m 0x0F14 (c .if3 .left))
+returns-2 c = let m = c .before .before .meaning-of in rw (← m .ensures, le-ltb 0 (m .result .least) (c .if1 .left))
 
 pub empty-refusal-spec : {M : Type 1} → statement M
-empty-refusal-spec = tie.close (tie.spec returns returns-2 returns-3 returns-4)
+empty-refusal-spec = tie.close (tie.spec meaning-of-requires returns returns-2)

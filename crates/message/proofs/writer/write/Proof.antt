@@ -11,7 +11,9 @@ use Rattle.message.specs.declared.Writing.the-variants.{Written, NotWrit
 use Rattle.basics.specs.Refusals.{firstOf}
 use Rattle.message.specs.Mti.{barred}
 use Rattle.message.specs.Messages.{messageBytes, contentTests}
+use Rattle.message.specs.Writing.{writingTold}
 use Rattle.message.proofs.Writings.{message-length, passed-tests, content-placed, write-barred, write-content, write-full, write-done}
+use Rattle.message.proofs.Tellings.{write-told}
 use Rattle.message.proofs.writer.write.Statement.{statement}
 use Rattle.message.proofs.writer.write.Tie as tie
 
@@ -46,7 +48,7 @@ returns : tie.Need-returns
 returns c =
     let p = c .before .before .before .before in
     let a = write-barred (message p) (body p) (lent p) (sym (c .before .barred .ensures) ∙ c .if1 .taken) in
-    (a .told, a .kept)
+    (a .tells, a .kept)
 
 refusal-of-requires : tie.Need-refusal-of-requires
 refusal-of-requires c κs = search needs
@@ -55,7 +57,7 @@ returns-2 : tie.Need-returns-2
 returns-2 c =
     let p = c .before .before .before .before .before .before in
     let a = write-content (message p) (body p) (lent p) (free (c .before .before)) (λ z. c .if2 .taken (c .before .refusal-of .ensures ∙ z)) in
-    (ap NotWritten (c .before .refusal-of .ensures) ∙ a .told, a .kept)
+    (ap (λ (n : ℕ). writingTold (NotWritten n)) (c .before .refusal-of .ensures) ∙ a .tells, a .kept)
 
 content-at-requires : tie.Need-content-at-requires
 content-at-requires c κs = search needs
@@ -65,7 +67,7 @@ returns-3 c =
     let t = c .before .before in
     let p = start t in
     let a = write-full (message p) (body p) (lent p) (free (t .before .before)) (good t) (omega (arith, size (c .before), c .if3 .taken)) in
-    (a .told, a .kept)
+    (a .tells, a .kept)
 
 sub-if4 : tie.Need-sub-if4
 sub-if4 c = search needs
@@ -75,7 +77,7 @@ returns-4 c =
     let t = c .before .before .before in
     let p = start t in
     let a = write-full (message p) (body p) (lent p) (free (t .before .before)) (good t) (omega (arith, size (c .before .before), c .if4 .taken, c .before .if3 .left)) in
-    (a .told, a .kept)
+    (a .tells, a .kept)
 
 put-message-requires : tie.Need-put-message-requires
 put-message-requires c κs = omega (arith, size (c .before .before .before), c .before .if4 .left, c .before .before .if3 .left)
@@ -92,7 +94,7 @@ returns-5 c =
     let p = start t in
     let l = size (c .before .before .before .before .before .before) in
     let done = write-done (message p) (body p) (lent p) (free (t .before .before)) (good t) (omega (arith, l, c .before .before .before .before .if4 .left, c .before .before .before .before .before .if3 .left)) in
-    (ap Written l ∙ done .0, c .before .before .put-message .ensures ∙ done .1)
+    (ap writingTold (ap Written l ∙ done .0) ∙ write-told (message p) (body p) (lent p), c .before .before .put-message .ensures ∙ done .1)
 
 pub write-spec : {M : Type 1} → statement M
 write-spec =

@@ -4,6 +4,7 @@ use mathlib.Core.Path.{sym, ap, _∙_}
 use lib.ListN.{length}
 use Rattle.message.specs.declared.Reading.the-variants.{Refused}
 use Rattle.message.specs.Reading.{refusedWith}
+use Rattle.message.proofs.Tellings.{read-once}
 use Rattle.message.specs.declared.Saying.{Saying}
 use Rattle.node_rules.specs.declared.Call.the-variants.{Receive}
 use Rattle.node_rules.specs.Boards.{Board}
@@ -45,7 +46,7 @@ returns c =
     let s = c .before .before .before .before .before .before .before .before .before .before .before in
     let told = c .before .before .enum-told .given .1 in
     let n = c .before .refused-with .result in
-    let r = receive-unread (board s) (s .args .bytes .now) (length (s .args .out .now)) n (sym (c .before .before .before .before .read .ensures) ∙ told ∙ ap Refused (sym (c .before .refused-with .ensures ∙ ap refusedWith told))) in
+    let r = receive-unread (board s) (s .args .bytes .now) (length (s .args .out .now)) n (sym (read-once _ (s .args .bytes .now) (c .before .before .before .before .read .ensures)) ∙ told ∙ ap Refused (sym (c .before .refused-with .ensures ∙ ap refusedWith told))) in
     call-refused (board s) Receive (s .args .bytes .now) (s .args .out .now) (s .pre) n (c .refused .ensures) (r .0) (r .1)
 
 heard-by-requires : tie.Need-heard-by-requires
@@ -68,7 +69,7 @@ returns-2 : tie.Need-returns-2
 returns-2 c =
     let s = c .before .before .before .before .before .before .before .before .before .before .before .before .before .before .before .before in
     let out = s .args .out .now in
-    call-refused (board s) Receive (s .args .bytes .now) out (s .pre) (c .before .before .no-room .result) (c .refused2 .ensures) (receive-room (board s) (s .args .bytes .now) (length out) _ (sym (c .before .before .before .before .before .before .before .before .before .read .ensures) ∙ c .before .before .before .before .before .before .before .reading .given .1) (c .before .before .before .before .heard-by .result) (c .before .before .before .before .heard-by .ensures) (c .before .before .before .count-answers .result) (c .before .before .before .count-answers .ensures) ∙ sym (c .before .before .no-room .ensures)) (c .before .if1 .taken)
+    call-refused (board s) Receive (s .args .bytes .now) out (s .pre) (c .before .before .no-room .result) (c .refused2 .ensures) (receive-room (board s) (s .args .bytes .now) (length out) _ (sym (read-once _ (s .args .bytes .now) (c .before .before .before .before .before .before .before .before .before .read .ensures)) ∙ c .before .before .before .before .before .before .before .reading .given .1) (c .before .before .before .before .heard-by .result) (c .before .before .before .before .heard-by .ensures) (c .before .before .before .count-answers .result) (c .before .before .before .count-answers .ensures) ∙ sym (c .before .before .no-room .ensures)) (c .before .if1 .taken)
 
 matches-requires : tie.Need-matches-requires
 matches-requires c κs =
@@ -104,7 +105,7 @@ returns-3 c =
     let heard = here .before .before .before .before .heard-by .result in
     let n = here .before .before .before .count-answers .result in
     let counted = here .before .before .before .count-answers .ensures in
-    let read = sym (here .before .before .before .before .before .before .before .before .before .read .ensures) ∙ here .before .before .before .before .before .before .before .reading .given .1 in
+    let read = sym (read-once _ bytes (here .before .before .before .before .before .before .before .before .before .read .ensures)) ∙ here .before .before .before .before .before .before .before .reading .given .1 in
     let same = heard-in b bytes (length out) _ read heard (here .before .before .before .before .heard-by .ensures) in
     call-accepted b Receive bytes out (s .pre) (receive-room b bytes (length out) _ read heard (here .before .before .before .before .heard-by .ensures) n counted ∙ sym (here .before .before .no-room .ensures) ∙ here .before .if1 .left) (c .wrote .ensures ∙ taking-answer b heard n counted (here .matches .result) (here .matches .ensures) ∙ ap (λ (x : Saying). answerOf (taking b x)) same) (ap (λ (x : Board). x .slots) (c .before .before .before .before .before .answer .ensures .0) ∙ ap (λ (x : Saying). replied b x .slots) same) (c .before .before .before .before .before .answer .ensures .1 ∙ ap (λ (x : Saying). pasted 0 (allBytes (replies b x)) out) same)
 
