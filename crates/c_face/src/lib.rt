@@ -1,4 +1,7 @@
 // The proved functions for C and for what links with C; include/hrislanoth.h is the header.
+mod lists;
+mod records;
+
 ghost use mathlib.Core.Path.{_≡_};
 ghost use lib.ListN.{drop};
 ghost use Rattle.range.specs.Range.{blockOf};

@@ -15,6 +15,7 @@ use node_rules::Call;
 use node_rules::Node;
 
 // The refusal or 0, the messages written and their bytes, the slots that a report matches, bit i for slot i, and the record.
+#[repr(C)]
 pub struct Answer {
     pub refusal: u8,
     pub messages: usize,

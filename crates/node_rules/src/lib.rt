@@ -2,6 +2,7 @@
 use range::Block;
 
 // State 0 is not Initialized, 1 Initialized.
+#[repr(C)]
 pub struct Node {
     pub id: u64,
     pub state: u8,

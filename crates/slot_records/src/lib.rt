@@ -13,6 +13,7 @@ use node_rules::Call;
 use node_rules::Node;
 use range::Block;
 
+#[repr(C)]
 pub struct Slot {
     pub role: u8,
     pub event: u64,
