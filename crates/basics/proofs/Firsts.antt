@@ -2,18 +2,13 @@
 use Prim.Native.Nat.{ℕ, zero, suc, _≤_, zero-le}
 use mathlib.Core.Path.{_≡_, refl, sym, ap, _∙_}
 use mathlib.Core.Logic.{_↔_}
-use mathlib.Core.Bool.{Bool, true, false, cond, not, _&&_}
+use mathlib.Core.Bool.{Bool, true, false, cond, not}
 use mathlib.Core.List.{List, [], _∷_, _++_, append-nil}
 use borrow.Author.Tests.{eqb-false, not-true, leb-true}
 use lib.Dec.{eqb, leb}
 use Rattle.basics.proofs.Bools.{both}
-use Rattle.basics.specs.Refusals.{Test, firstOf, answered, None, Given}
+use Rattle.basics.specs.Refusals.{Test, numbered, firstOf, answered, None, Given}
 use Rattle.basics.specs.Refusals.None.{none, passed}
-
--- Every test has a number that is not 0.
-abbrev pub numbered : List Test → Bool
-numbered [] = true
-numbered (t ∷ ts) = not (eqb (t .number) 0) && numbered ts
 
 -- Where one list gives a refusal, what follows it does not matter.
 pub first-some : (ts us : List Test) → (firstOf ts ≡ 0 → ⊥) → firstOf (ts ++ us) ≡ firstOf ts

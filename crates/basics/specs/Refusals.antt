@@ -1,8 +1,9 @@
 -- Refusals in an order: the first test that applies gives its number (document 01, "Refusal numbers").
 use Prim.Native.Nat.{ℕ, zero, suc}
 use mathlib.Core.Path.{_≡_}
-use mathlib.Core.Bool.{Bool, true, false, cond}
+use mathlib.Core.Bool.{Bool, true, false, cond, not, _&&_}
 use mathlib.Core.List.{List, [], _∷_, _++_}
+use lib.Dec.{eqb}
 
 pub record Test : Type 0 where
   pub number : ℕ
@@ -10,6 +11,11 @@ pub record Test : Type 0 where
 
 abbrev pub refuse : ℕ → Bool → Test
 refuse n t = record { number = n; applies = t }
+
+-- Every test has a number that is not 0.
+abbrev pub numbered : List Test → Bool
+numbered [] = true
+numbered (t ∷ ts) = not (eqb (t .number) 0) && numbered ts
 
 -- The refusal's number, 0 where no test applies.
 abbrev pub firstOf : List Test → ℕ

@@ -1,6 +1,6 @@
 // What reading and writing both test of a message and its content.
 ghost use mathlib.Core.Path.{_≡_};
-ghost use mathlib.Core.Bool.{cond, not};
+ghost use mathlib.Core.Bool.{cond};
 ghost use lib.Dec.{ltb};
 ghost use Rattle.basics.specs.Refusals.{firstOf};
 ghost use Rattle.message.specs.Messages.{badNode, badWherePresent, misplaced as isMisplaced, contentTests, restTests};

@@ -7,8 +7,8 @@ use native.Mathlib.Omega.{arith}
 use lib.ListN.{length}
 use Rattle.numbers.specs.Numbers.{pasted}
 use Rattle.numbers.proofs.Pasting.{pasted-first}
-use Rattle.basics.specs.Refusals.{Test, firstOf, answered}
-use Rattle.basics.proofs.Firsts.{numbered, first-none, first-some, first-after, answered-yes, answered-no}
+use Rattle.basics.specs.Refusals.{Test, numbered, firstOf, answered}
+use Rattle.basics.proofs.Firsts.{first-none, first-some, first-after, answered-yes, answered-no}
 use Rattle.basics.proofs.Sets.{nobody}
 use Rattle.node_rules.specs.declared.Call.{Call}
 use Rattle.node_rules.specs.Boards.{Slots, Board}

@@ -140,7 +140,7 @@ module _ (start : Board) where
         event : (i : ℕ) → eventOf (advertising (b .slots) js) i ≡ eventOf (b .slots) i
         event i = ap (λ (l : List ℕ). getD l i 0) (k .events)
     holds-next (reports i f g s r m) = let d = doneBy c (accepting (report b i ∷ []) noMatch b) in holds-kept d (not-restarted d f)
-    holds-next (sets i status f) =
+    holds-next (sets i status f l) =
         let d = doneBy c (accepting [] noMatch (withStatus b i status)) in
         let k = holds-kept d (not-restarted d f) in
         record { automatic = k .automatic; fit = k .fit; identified = k .identified }
@@ -166,7 +166,7 @@ module _ (start : Board) (e : ℕ) (outside : inBlock (start .node .automatic) e
   report-identified {b = b} {l = l} p (reports i f g s r m) w =
       let same : eventOf (b .slots) i ≡ e = eqb-true (eventOf (b .slots) i) e (sym (or-false _) ∙ w) in
       subst (λ (x : ℕ). IdentifiedSince x l) same (p .identified i r m (ap (inBlock (start .node .automatic)) same ∙ outside))
-  report-identified p (sets i status f) w = absurd (false≢true w)
+  report-identified p (sets i status f l) w = absurd (false≢true w)
 
 -- A report that a call writes, after any calls on a new node, for an event outside the automatic block, was identified since the last restart.
 pub reports-identified : (start : Board) → New start → (before : List Made) (c : Made) (e : ℕ) → inBlock (start .node .automatic) e ≡ false
@@ -184,7 +184,7 @@ module _ (b : Board) (quiet : eqb (b .node .state) initialized ≡ false) where
   complete-only (restarting i g) = refl
   complete-only (identifies js matches f g s) = ap (λ (l : List ℕ). any (λ m. not (isRestart (kindOf (m .mti)))) (identifying b l)) (s quiet)
   complete-only (reports i f g s r m) = absurd (true≢false (sym s ∙ quiet))
-  complete-only (sets i status f) = refl
+  complete-only (sets i status f l) = refl
 
   pub only-complete : ((i : ℕ) → eventOf (b .slots) i < 2 ^ 64) → (c : Made) → any (λ m. not (isRestart (kindOf (m .mti)))) (messagesIn (done b c .bytes)) ≡ false
   only-complete fit c = ap (any _) (written-read b c fit) ∙ complete-only (made b c)

@@ -45,7 +45,7 @@ kept (refused n h) z = refl
 kept (restarts i g) z = absurd (z refl)
 kept (identifies js matches f g s) z = absurd (z refl)
 kept (reports i f g s r m) z = absurd (z refl)
-kept (sets i status f) z = absurd (z refl)
+kept (sets i status f l) z = absurd (z refl)
 
 pub refused-keeps : (b : Board) (call : Call) (bytes : List ℕ) (room : ℕ) → (outcome b call bytes room .refusal ≡ 0 → ⊥)
     → outcome b call bytes room ≡ refusing b (outcome b call bytes room .refusal)

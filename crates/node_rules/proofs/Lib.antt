@@ -1,6 +1,7 @@
 pub mod Pieces
 pub mod Marking
 pub mod Steps
+pub mod Statuses
 pub mod Demand2
 pub mod Exactly
 pub mod Bounds

@@ -5,17 +5,18 @@ use mathlib.Core.Bool.{Bool, true, false, true≢false}
 use mathlib.Core.List.{List, [], _∷_, _++_, append-nil}
 use native.Mathlib.Omega.{arith}
 use borrow.Author.Tests.{eqb-true, not-false}
-use lib.Dec.{eqb}
+use lib.Dec.{eqb, leb, ltb}
 use lib.ListN.{length, drop}
 use lib.Seq.{take-append-seam}
 use Rattle.message.specs.declared.Message.{Message}
 use Rattle.message.specs.Messages.{badNode}
 use Rattle.message.specs.Reading.{messageIn}
-use Rattle.basics.specs.Refusals.{Test, firstOf, answered, None}
-use Rattle.basics.proofs.Firsts.{numbered, first-none, first-passed, rest-passed}
+use Rattle.basics.specs.Refusals.{Test, numbered, firstOf, answered, None}
+use Rattle.basics.proofs.Bools.{neither}
+use Rattle.basics.proofs.Firsts.{first-none, first-passed, rest-passed}
 use Rattle.node_rules.specs.declared.Call.{Call}
 use Rattle.node_rules.specs.declared.Call.the-variants.{Initialise, Announce, Produce, SetStatus, Receive}
-use Rattle.node_rules.specs.Boards.{Board, advertised, initialized, count, roleOf, eventOf, markOf}
+use Rattle.node_rules.specs.Boards.{Board, advertised, initialized, unknown, count, roleOf, eventOf, markOf}
 use Rattle.message.specs.Saying.{producer}
 use Rattle.node_rules.specs.Sending.{completeBy, report, allBytes, identifying}
 use Rattle.node_rules.specs.Hearing.{heardBy, chosen, answering}
@@ -24,7 +25,7 @@ use Rattle.node_rules.specs.Histories.{Made, givenBy, doneBy, done, mess
 use Rattle.node_rules.proofs.Pieces.{AllReadable, messages-back, plain-readable, complete-readable, report-plain, identified-plain}
 use Rattle.node_rules.proofs.Pieces.AllReadable.{none, also}
 
--- A call is refused; or it initialises, identifies some slots, reports an Advertised producer slot, or sets a status.
+-- A call is refused; or it initialises, identifies some slots, reports an Advertised producer slot, or sets one of the three statuses.
 pub data Happened (b : Board) (c : Call) : Outcome → Type 0 where
   refused : (n : ℕ) → (n ≡ 0 → ⊥) → Happened b c (refusing b n)
   restarts : isInitialise c ≡ true → badNode (b .node .id) ≡ false → Happened b c (accepting (completeBy (b .node .id) ∷ []) noMatch (restarted b))
@@ -32,7 +33,7 @@ pub data Happened (b : Board) (c : Call) : Outcome → Type 0 where
       → (eqb (b .node .state) initialized ≡ false → js ≡ []) → Happened b c (accepting (identifying b js) matches (identifyingAll b js))
   reports : (i : ℕ) → isInitialise c ≡ false → badNode (b .node .id) ≡ false → eqb (b .node .state) initialized ≡ true
       → roleOf (b .slots) i ≡ producer → markOf (b .slots) i ≡ advertised → Happened b c (accepting (report b i ∷ []) noMatch b)
-  sets : (i status : ℕ) → isInitialise c ≡ false → Happened b c (accepting [] noMatch (withStatus b i status))
+  sets : (i status : ℕ) → isInitialise c ≡ false → ltb unknown status ≡ false → Happened b c (accepting [] noMatch (withStatus b i status))
 
 -- ---- each call is one of them
 
@@ -58,7 +59,7 @@ took-place b (Announce i) bytes room p = identifies (i ∷ []) noMatch refl (nod
 took-place b (Produce i) bytes room p =
     let q = rest-passed (rest-passed (rest-passed (rest-passed p))) in
     reports i refl (node-good b p) (was-initialized b i p) (eqb-true _ _ (not-false _ (first-passed q))) (eqb-true _ _ (not-false _ (first-passed (rest-passed q))))
-took-place b (SetStatus i status) bytes room p = sets i status refl
+took-place b (SetStatus i status) bytes room p = sets i status refl (neither (leb (count (b .slots)) i) (ltb unknown status) (first-passed (rest-passed (rest-passed p))) .1)
 took-place b Receive bytes room p =
     identifies (answering b (heardIn b bytes)) (matching b (heardIn b bytes)) refl (node-good b p) (silent b (messageIn bytes))
 
@@ -89,7 +90,7 @@ all-readable fit (refused n h) = none
 all-readable {b = b} fit (restarts i h) = also (complete-readable (b .node .id) h) none
 all-readable {b = b} fit (identifies js matches i h s) = all-identified b js h fit
 all-readable {b = b} fit (reports i f h s r m) = also (plain-readable report-plain (b .node .id) (eventOf (b .slots) i) h (fit i)) none
-all-readable fit (sets i status f) = none
+all-readable fit (sets i status f l) = none
 
 pub sent-read : (b : Board) (c : Made) {o : Outcome} → ((i : ℕ) → eventOf (b .slots) i < 2 ^ 64) → Happened b (c .call) o → messagesIn (doneBy c o .bytes) ≡ o .sent
 sent-read b c {o = o} fit h =

@@ -84,6 +84,11 @@ pub restart-forgets : givenBy (after board (twoCalls ++ (made Initialise 14 ∷ 
 unfolding outcome outOfBounds hasNumber isBlock inBlock each identifiedMti meaningOf bytesOf
 restart-forgets = refl
 
+-- Slot 0, whose status is unknown, is announced as that.
+pub announced : givenBy (after board (made Initialise 14 ∷ [])) (made (Announce 0) 16) .sent ≡ withEvent 0x0547 0x0A0000000001 event ∷ []
+unfolding outcome outOfBounds hasNumber isBlock inBlock each identifiedMti meaningOf bytesOf
+announced = refl
+
 -- Identify Events: Producer Identified unknown by slot 0, Consumer Identified invalid by slot 2, nothing for the automatic event.
 abbrev identifyEvents : List ℕ
 identifyEvents = bytesOf 2 0x0970 ++ bytesOf 6 0x0A0000000009
