@@ -1,12 +1,12 @@
 /* The proved box and boards, for C and for what links with C.
  *
  * Every function answers every input that C can write down: a refusal has a number (document 01, "Refusal numbers"), 0 is none, and beside a refusal
- * every other number is 0, no output byte changes and a box comes back as it was. Nothing is kept between calls and nothing is allocated.
+ * every other number is 0, no output byte changes and a box or board comes back as it was. Nothing is kept between calls and nothing is allocated.
  *
- * Memory is the caller's. A pointer and a length stand for that many bytes, or that many numbers of a list, which the caller owns and keeps for the call,
- * and which no other thread writes meanwhile, or reads where the call writes. No pointer is kept. A pointer is never NULL, not even beside the length 0.
- * What a call writes (out, text, a box's four lists) overlaps nothing else that it is given: the lists neither each other nor the bytes. Those three are
- * all that a caller has to keep; nothing tests them.
+ * Memory is the caller's. A pointer and a length stand for that many bytes, or that many numbers or slots of a list, which the caller owns and keeps for the
+ * call, and which no other thread writes meanwhile, or reads where the call writes. No pointer is kept. A pointer is never NULL, not even beside the length 0.
+ * What a call writes (out, text, a box's four lists, a board's slots, or its statuses and marks) overlaps nothing else that it is given: the lists neither
+ * each other nor the bytes. Those three are all that a caller has to keep; nothing tests them.
  *
  * Link with target/staticlib/libc_face.a, which `rt staticlib c_face` writes, on x86-64.
  */
@@ -59,7 +59,7 @@ typedef struct {
     size_t content_at;
 } hrislanoth_reading;
 
-/* How many bytes were written, or refusal 1 to 6. */
+/* How many bytes were written, or refusal 2 to 6. */
 typedef struct {
     uint8_t refusal;
     size_t bytes;
@@ -116,6 +116,71 @@ hrislanoth_answer hrislanoth_receive(hrislanoth_gateway gateway, uint8_t port, c
 hrislanoth_lent_answer hrislanoth_receive_lent(hrislanoth_head head, uint64_t *nodes, size_t nodes_length, uint64_t *starts, size_t starts_length,
                                                uint8_t *ports, size_t ports_length, uint8_t *sizes, size_t sizes_length, uint8_t port,
                                                const uint8_t *bytes, size_t length);
+
+/* ---- the board (document 01, "Node") */
+
+/* state is 0 for not Initialized, 1 for Initialized; automatic is the block of automatically routed events. */
+typedef struct {
+    uint64_t id;
+    uint8_t state;
+    hrislanoth_block automatic;
+} hrislanoth_node;
+
+/* role is 0 for a producer, 1 for a consumer; status 0 valid, 1 invalid, 2 unknown; mark 0 Unadvertised, 1 Advertised. */
+typedef struct {
+    uint8_t role;
+    uint64_t event;
+    uint8_t status;
+    uint8_t mark;
+} hrislanoth_slot;
+
+/* The refusal or 0, the messages written and their bytes, the slots that a report matches, bit i for slot i, and the record afterwards. */
+typedef struct {
+    uint8_t refusal;
+    size_t messages;
+    size_t bytes;
+    uint64_t matches;
+    hrislanoth_node node;
+} hrislanoth_node_answer;
+
+/* A new board is one that the caller lays out: state 0, every mark 0. Each call changes the slots where they stand; the record afterwards is the answer's.
+ * What is written stands in out from its first byte on, and the rest of out stays as it was.
+ * The refusals: 7 out of bounds, or more than 64 slots; 3 its own Node ID is none; 9 not Initialized; 10 no such slot, or no such status; 11 the slot is no
+ * producer; 12 the slot is not Advertised; 6 out is too short. 13, more than 1,024 bytes of replies, cannot arise: those are enough for 64 slots. */
+
+/* Refusals 7, 3, 6. Initialization Complete; slots in the automatic block become Advertised, all others Unadvertised, and the node is Initialized. */
+hrislanoth_node_answer hrislanoth_initialise(hrislanoth_node node, hrislanoth_slot *slots, size_t count, uint8_t *out, size_t room);
+
+/* Refusals 7, 3, 9, 10, 6. The slot's Identified message; every slot of its role and event becomes Advertised. */
+hrislanoth_node_answer hrislanoth_announce(hrislanoth_node node, size_t slot, hrislanoth_slot *slots, size_t count, uint8_t *out, size_t room);
+
+/* Refusals 7, 3, 9, 10, 11, 12, 6. An event report; no slot changes. */
+hrislanoth_node_answer hrislanoth_produce(hrislanoth_node node, size_t slot, hrislanoth_slot *slots, size_t count, uint8_t *out, size_t room);
+
+/* Refusals 7, 3, 10. Sets the slot's status, also where the node is not Initialized; nothing is written. */
+hrislanoth_node_answer hrislanoth_set_status(hrislanoth_node node, size_t slot, uint8_t status, hrislanoth_slot *slots, size_t count);
+
+/* Refusals 7, 3, then 1 to 5 where the message cannot be read, 6. The replies to an inquiry, each of which advertises as hrislanoth_announce does, or the
+ * matches of a report. A node that is not Initialized takes every message and does nothing. */
+hrislanoth_node_answer hrislanoth_hear(hrislanoth_node node, const uint8_t *bytes, size_t length,
+                                       hrislanoth_slot *slots, size_t count, uint8_t *out, size_t room);
+
+/* The same on four lists of numbers, one entry of each for a slot; 7 also where they are of unequal length. Only statuses and marks change. */
+hrislanoth_node_answer hrislanoth_initialise_lists(hrislanoth_node node,
+                                                   const uint8_t *roles, size_t roles_length, const uint64_t *events, size_t events_length,
+                                                   uint8_t *statuses, size_t statuses_length, uint8_t *marks, size_t marks_length, uint8_t *out, size_t room);
+hrislanoth_node_answer hrislanoth_announce_lists(hrislanoth_node node, size_t slot,
+                                                 const uint8_t *roles, size_t roles_length, const uint64_t *events, size_t events_length,
+                                                 uint8_t *statuses, size_t statuses_length, uint8_t *marks, size_t marks_length, uint8_t *out, size_t room);
+hrislanoth_node_answer hrislanoth_produce_lists(hrislanoth_node node, size_t slot,
+                                                const uint8_t *roles, size_t roles_length, const uint64_t *events, size_t events_length,
+                                                uint8_t *statuses, size_t statuses_length, uint8_t *marks, size_t marks_length, uint8_t *out, size_t room);
+hrislanoth_node_answer hrislanoth_set_status_lists(hrislanoth_node node, size_t slot, uint8_t status,
+                                                   const uint8_t *roles, size_t roles_length, const uint64_t *events, size_t events_length,
+                                                   uint8_t *statuses, size_t statuses_length, uint8_t *marks, size_t marks_length);
+hrislanoth_node_answer hrislanoth_hear_lists(hrislanoth_node node, const uint8_t *bytes, size_t length,
+                                             const uint8_t *roles, size_t roles_length, const uint64_t *events, size_t events_length,
+                                             uint8_t *statuses, size_t statuses_length, uint8_t *marks, size_t marks_length, uint8_t *out, size_t room);
 
 /* ---- files */
 
