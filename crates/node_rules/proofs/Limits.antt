@@ -14,7 +14,7 @@ use Rattle.range.specs.Range.{inBlock}
 use Rattle.node_rules.specs.declared.Call.{Call}
 use Rattle.node_rules.specs.declared.Call.the-variants.{Initialise, Announce, Produce, SetStatus, Receive}
 use Rattle.node_rules.specs.Boards.{Slots, Board, initialized, advertised, unadvertised, eventOf, markOf, advertise}
-use Rattle.node_rules.specs.Sending.{completeBy, wholeBytes, allBytes, advertising}
+use Rattle.node_rules.specs.Sending.{completeBy, wholeBytes, advertising}
 use Rattle.node_rules.specs.Calls.{Outcome, refusing, accepted, size, testsOf, outcome}
 use Rattle.node_rules.proofs.Pieces.{complete-content, complete-length}
 use Rattle.node_rules.proofs.Marking.{like}
@@ -70,7 +70,7 @@ module _ (b : Board) (call : Call) (bytes : List ℕ) (room : ℕ) where
 -- ---- state and marks
 
 -- The state and every mark are 0 or 1.
-pub record Told (b : Board) : Type 0 where
+pub record Binary (b : Board) : Type 0 where
   pub state : b .node .state ≤ initialized
   pub marks : (i : ℕ) → markOf (b .slots) i ≤ advertised
 
@@ -78,24 +78,24 @@ mark-or : (t : Bool) (old : ℕ) → old ≤ advertised → cond t advertised ol
 mark-or true old h = omega arith
 mark-or false old h = h
 
-advertising-told : (js : List ℕ) (s : Slots) → ((i : ℕ) → markOf s i ≤ advertised) → (i : ℕ) → markOf (advertising s js) i ≤ advertised
-advertising-told [] s h = h
-advertising-told (j ∷ js) s h =
-    advertising-told js (advertise s j) (each-up-to (length (s .marks)) advertised _ (λ i. mark-or (like s j i) (markOf s i) (h i)))
+advertising-binary : (js : List ℕ) (s : Slots) → ((i : ℕ) → markOf s i ≤ advertised) → (i : ℕ) → markOf (advertising s js) i ≤ advertised
+advertising-binary [] s h = h
+advertising-binary (j ∷ js) s h =
+    advertising-binary js (advertise s j) (each-up-to (length (s .marks)) advertised _ (λ i. mark-or (like s j i) (markOf s i) (h i)))
 
 advertising-length : (js : List ℕ) (s : Slots) → length (advertising s js .marks) ≡ length (s .marks)
 advertising-length [] s = refl
 advertising-length (j ∷ js) s = advertising-length js (advertise s j) ∙ each-length (length (s .marks)) _
 
-happened-told : {b : Board} {c : Call} {o : Outcome} → Told b → Happened b c o → Told (o .next)
-happened-told t (refused n h) = t
-happened-told {b = b} t (restarts i h) = record {
+happened-binary : {b : Board} {c : Call} {o : Outcome} → Binary b → Happened b c o → Binary (o .next)
+happened-binary t (refused n h) = t
+happened-binary {b = b} t (restarts i h) = record {
   state = omega arith;
   marks = each-up-to (length (b .slots .marks)) advertised _ (λ i. mark-or (inBlock (b .node .automatic) (eventOf (b .slots) i)) unadvertised (omega arith));
 }
-happened-told {b = b} t (identifies js matches i h s) = record { state = t .state; marks = advertising-told js (b .slots) (t .marks) }
-happened-told t (reports i f h s r m) = t
-happened-told t (sets i status f) = record { state = t .state; marks = t .marks }
+happened-binary {b = b} t (identifies js matches i h s) = record { state = t .state; marks = advertising-binary js (b .slots) (t .marks) }
+happened-binary t (reports i f h s r m) = t
+happened-binary t (sets i status f) = record { state = t .state; marks = t .marks }
 
 happened-marks : {b : Board} {c : Call} {o : Outcome} → Happened b c o → length (o .next .slots .marks) ≡ length (b .slots .marks)
 happened-marks (refused n h) = refl
@@ -105,8 +105,8 @@ happened-marks (reports i f h s r m) = refl
 happened-marks (sets i status f) = refl
 
 module _ (b : Board) (call : Call) (bytes : List ℕ) (room : ℕ) where
-  pub call-told : Told b → Told (outcome b call bytes room .next)
-  call-told t = happened-told t (happened b call bytes room)
+  pub call-binary : Binary b → Binary (outcome b call bytes room .next)
+  call-binary t = happened-binary t (happened b call bytes room)
 
   -- There are as many marks as before.
   pub call-marks : length (outcome b call bytes room .next .slots .marks) ≡ length (b .slots .marks)

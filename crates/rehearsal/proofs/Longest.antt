@@ -9,17 +9,16 @@ use lib.Dec.{eqb, leb}
 use lib.ListN.{length, getD, length-append}
 use Rattle.numbers.specs.Numbers.{bytesOf}
 use Rattle.numbers.proofs.Laws.{bytes-length}
-use Rattle.basics.specs.Lists.{each}
 use Rattle.basics.specs.Sets.{setOf}
 use Rattle.basics.proofs.Each.{each-length, each-up-to}
 use Rattle.text.specs.Text.{decimal, hexOf, badFile}
 use Rattle.text.proofs.Lengths.{decimal-length, hex-length}
 use Rattle.node_rules.specs.declared.Call.{Call}
-use Rattle.node_rules.specs.Boards.{Board, unadvertised, advertised, markOf}
+use Rattle.node_rules.specs.Boards.{Board, unadvertised, advertised}
 use Rattle.node_rules.specs.Sending.{allBytes}
 use Rattle.node_rules.specs.Calls.{Outcome, outcome}
 use Rattle.node_rules.proofs.Exactly.{refused-keeps}
-use Rattle.node_rules.proofs.Limits.{Told, call-up-to, call-size, accepted-few, call-told, call-marks}
+use Rattle.node_rules.proofs.Limits.{Binary, call-up-to, call-size, accepted-few, call-binary, call-marks}
 use Rattle.rehearsal.specs.Files.{slotCount, boardIn, callsAt, sizeAt, callAt, messageAt, roomAt, outcomeAt, goodFile, mostCalls}
 use Rattle.rehearsal.specs.Lines.{orDash, digitsOf, lineOf, lineFor, linesFrom, callLines, textOf, longestLine, longest}
 use Rattle.rehearsal.proofs.Good.{good-file}
@@ -55,12 +54,12 @@ parts-length r b m k refusal bytes matches state marks hk hr hb hs hm =
 
 -- ---- a line
 
-module _ (k : ℕ) (b : Board) (call : Call) (bytes : List ℕ) (room : ℕ) (hk : suc k ≤ 1000) (told : Told b) (few : length (b .slots .marks) ≤ 100) where
+module _ (k : ℕ) (b : Board) (call : Call) (bytes : List ℕ) (room : ℕ) (hk : suc k ≤ 1000) (binary : Binary b) (few : length (b .slots .marks) ≤ 100) where
   abbrev o : Outcome
   o = outcome b call bytes room
 
-  after : Told (o .next)
-  after = call-told b call bytes room told
+  after : Binary (o .next)
+  after = call-binary b call bytes room binary
 
   marks-length : (n : ℕ) → 1 ≤ n → length (b .slots .marks) ≤ n → length (orDash (digitsOf (o .next .slots .marks))) ≤ n
   marks-length n h l =
@@ -87,11 +86,11 @@ module _ (k : ℕ) (b : Board) (call : Call) (bytes : List ℕ) (room : ℕ) (hk
 
 -- ---- the lines, and the text
 
-lines-length : (n k : ℕ) (b : Board) (s : List ℕ) (at : ℕ) → k + n ≤ 1000 → Told b → length (b .slots .marks) ≤ 100
+lines-length : (n k : ℕ) (b : Board) (s : List ℕ) (at : ℕ) → k + n ≤ 1000 → Binary b → length (b .slots .marks) ≤ 100
     → length (linesFrom n k b s at) ≤ n * longestLine
 unfolding linesFrom outcomeAt
-lines-length zero k b s at h told few = omega arith
-lines-length (suc n) k b s at h told few = go (leb (length s) at) (lines-length n (suc k) next s (at + sizeAt s at) (omega (arith, h)) after marks)
+lines-length zero k b s at h binary few = omega arith
+lines-length (suc n) k b s at h binary few = go (leb (length s) at) (lines-length n (suc k) next s (at + sizeAt s at) (omega (arith, h)) after marks)
   where
     call : Call
     call = callAt s at
@@ -99,8 +98,8 @@ lines-length (suc n) k b s at h told few = go (leb (length s) at) (lines-length 
     next : Board
     next = outcome b call (messageAt s at) (roomAt s at) .next
 
-    after : Told next
-    after = call-told b call (messageAt s at) (roomAt s at) told
+    after : Binary next
+    after = call-binary b call (messageAt s at) (roomAt s at) binary
 
     marks : length (next .slots .marks) ≤ 100
     marks = omega (arith, call-marks b call (messageAt s at) (roomAt s at), few)
@@ -112,7 +111,7 @@ lines-length (suc n) k b s at h told few = go (leb (length s) at) (lines-length 
         omega (
           arith,
           length-append (lineFor k (outcomeAt b s at)) (linesFrom n (suc k) next s (at + sizeAt s at)),
-          line-length k b call (messageAt s at) (roomAt s at) (omega (arith, h)) told few,
+          line-length k b call (messageAt s at) (roomAt s at) (omega (arith, h)) binary few,
           r,
         )
 
@@ -121,11 +120,11 @@ pub text-length : (s : List ℕ) → length (textOf s) ≤ longest
 unfolding textOf
 text-length s = go (goodFile s) refl
   where
-    told : Told (boardIn s)
-    told = record { state = omega arith; marks = each-up-to (slotCount s) advertised (λ _. unadvertised) (λ _. omega arith) }
+    binary : Binary (boardIn s)
+    binary = record { state = omega arith; marks = each-up-to (slotCount s) advertised (λ _. unadvertised) (λ _. omega arith) }
 
     go : (t : Bool) → goodFile s ≡ t → length (cond t (callLines (boardIn s) s) badFile) ≤ longest
     go true e =
-        lines-length mostCalls 0 (boardIn s) s (callsAt s) (omega arith) told
+        lines-length mostCalls 0 (boardIn s) s (callsAt s) (omega arith) binary
         (omega (arith, good-file s e .count, each-length (slotCount s) (λ (_ : ℕ). unadvertised)))
     go false e = omega arith

@@ -4,7 +4,7 @@ use mathlib.Core.Path.{_≡_, refl, sym, ap, _∙_}
 use mathlib.Core.Bool.{Bool, true, false, cond}
 use mathlib.Core.List.{List, [], _++_, append-nil}
 use native.Mathlib.Omega.{arith}
-use borrow.Author.Tests.{ltb-true, ltb-false}
+use borrow.Author.Tests.{ltb-true}
 use lib.Dec.{ltb}
 use lib.ListN.{length, take, drop, length-take, length-drop, take-append-drop, drop-of-length-le}
 use lib.Seq.{take-all, drop-drop}
@@ -49,6 +49,6 @@ parts-rest (suc n) skip text h = go (ltb (length part) partSize) refl (parts-res
     go false e r =
         ap (λ (l : List ℕ). part ++ l) (r ∙ sym (drop-drop partSize skip text)) ∙ take-append-drop partSize (drop skip text)
 
--- At most 33 parts, up to the first that is not full, are the whole text of every board file.
-pub parts-whole : (s : List ℕ) → partsFrom mostParts 0 (textOf s) ≡ textOf s
-parts-whole s = parts-rest mostParts 0 (textOf s) (omega (arith, text-length s))
+-- The parts up to the first that is not full are the whole text of every board file, wherever 33 or more may be asked for.
+pub parts-whole : (s : List ℕ) (n : ℕ) → mostParts ≤ n → partsFrom n 0 (textOf s) ≡ textOf s
+parts-whole s n h = parts-rest n 0 (textOf s) (omega (arith, text-length s, h))
