@@ -1,5 +1,5 @@
 -- How long a board file's text can be, over every file.
-use Prim.Native.Nat.{ℕ, zero, suc, _+_, _*_, _≤_}
+use Prim.Native.Nat.{ℕ, zero, suc, _+_, _*_, _≤_, _<_}
 use mathlib.Core.Path.{_≡_, refl, ap}
 use mathlib.Core.Bool.{Bool, true, false, cond}
 use mathlib.Core.List.{List, [], _∷_, _++_}
@@ -42,7 +42,7 @@ digits-length (x ∷ xs) h =
 
 -- Of a line in which the refusal, the bytes and the marks have at most so many bytes.
 parts-length : (r b m k refusal : ℕ) (bytes : List ℕ) (matches state : ℕ) (marks : List ℕ)
-    → suc k ≤ 1000 → length (decimal refusal) ≤ r → length (orDash (hexOf bytes)) ≤ b → state ≤ 1 → length (orDash (digitsOf marks)) ≤ m
+    → k < 1000 → length (decimal refusal) ≤ r → length (orDash (hexOf bytes)) ≤ b → state ≤ 1 → length (orDash (digitsOf marks)) ≤ m
     → length (lineOf k refusal bytes matches state marks) ≤ 26 + r + b + m
 unfolding lineOf
 parts-length r b m k refusal bytes matches state marks hk hr hb hs hm =
@@ -54,7 +54,7 @@ parts-length r b m k refusal bytes matches state marks hk hr hb hs hm =
 
 -- ---- a line
 
-module _ (k : ℕ) (b : Board) (call : Call) (bytes : List ℕ) (room : ℕ) (hk : suc k ≤ 1000) (binary : Binary b) (few : length (b .slots .marks) ≤ 100) where
+module _ (k : ℕ) (b : Board) (call : Call) (bytes : List ℕ) (room : ℕ) (hk : k < 1000) (binary : Binary b) (few : length (b .slots .marks) ≤ 100) where
   abbrev o : Outcome
   o = outcome b call bytes room
 

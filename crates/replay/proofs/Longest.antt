@@ -1,5 +1,5 @@
 -- How long a trial file's text can be, over every file.
-use Prim.Native.Nat.{ℕ, zero, suc, _+_, _*_, _≤_}
+use Prim.Native.Nat.{ℕ, zero, suc, _+_, _*_, _≤_, _<_}
 use mathlib.Core.Path.{_≡_, refl, _∙_}
 use mathlib.Core.Bool.{Bool, true, false, cond}
 use mathlib.Core.List.{List, _++_}
@@ -32,7 +32,7 @@ answer-length refusal sent h = go (eqb refusal 0)
     go true = omega (arith, ports-length sent)
     go false = omega (arith, length-append refusedWord (decimal refusal), decimal-length 1 refusal (omega arith) (omega (arith, h)))
 
-line-length : (i refusal sent lines : ℕ) → suc i ≤ 1000 → refusal ≤ 8 → lines ≤ full → length (lineOf i refusal sent lines) ≤ longestLine
+line-length : (i refusal sent lines : ℕ) → i < 1000 → refusal ≤ 8 → lines ≤ full → length (lineOf i refusal sent lines) ≤ longestLine
 unfolding lineOf
 line-length i refusal sent lines hi hr hl =
     let number = decimal-length 3 i (omega arith) (omega (arith, hi)) in

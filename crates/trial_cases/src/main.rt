@@ -42,10 +42,8 @@ fn run(fd: i32) {
     let mut file = [0u8; MOST];
     let length = io::read_full(fd, &mut file);
     let mut text = io::large_buffer();
-    let end = replay::replay(&file[0..length], &mut text);
-    if end <= 65536 {
-        say(&text[0..end]);
-    }
+    let end = replay::whole(&file[0..length], &mut text);
+    say(&text[0..end]);
 }
 
 fn say(t: &[u8]) {
