@@ -7,7 +7,7 @@ use mathlib.Core.List.{List, [], _∷_, _++_, append-nil}
 use borrow.Author.Tests.{eqb-false, not-true, leb-true}
 use lib.Dec.{eqb, leb}
 use Rattle.basics.proofs.Bools.{both}
-use Rattle.basics.specs.Refusals.{Test, numbered, firstOf, answered, None, Given}
+use Rattle.basics.specs.Refusals.{Test, numbered, numberedUpTo, firstOf, answered, None, Given}
 use Rattle.basics.specs.Refusals.None.{none, passed}
 
 -- Where one list gives a refusal, what follows it does not matter.
@@ -79,11 +79,6 @@ first-given ts n p = (
 )
 
 -- ---- how large a refusal's number is
-
--- Every test has a number of at most n.
-abbrev pub numberedUpTo : ℕ → List Test → Bool
-numberedUpTo n [] = true
-numberedUpTo n (t ∷ ts) = leb (t .number) n && numberedUpTo n ts
 
 pub first-up-to : (n : ℕ) (ts : List Test) → numberedUpTo n ts ≡ true → firstOf ts ≤ n
 first-up-to n [] h = zero-le

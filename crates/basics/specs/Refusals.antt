@@ -3,7 +3,7 @@ use Prim.Native.Nat.{ℕ, zero, suc}
 use mathlib.Core.Path.{_≡_}
 use mathlib.Core.Bool.{Bool, true, false, cond, not, _&&_}
 use mathlib.Core.List.{List, [], _∷_, _++_}
-use lib.Dec.{eqb}
+use lib.Dec.{eqb, leb}
 
 pub record Test : Type 0 where
   pub number : ℕ
@@ -16,6 +16,11 @@ refuse n t = record { number = n; applies = t }
 abbrev pub numbered : List Test → Bool
 numbered [] = true
 numbered (t ∷ ts) = not (eqb (t .number) 0) && numbered ts
+
+-- Every test has a number of at most n.
+abbrev pub numberedUpTo : ℕ → List Test → Bool
+numberedUpTo n [] = true
+numberedUpTo n (t ∷ ts) = leb (t .number) n && numberedUpTo n ts
 
 -- The refusal's number, 0 where no test applies.
 abbrev pub firstOf : List Test → ℕ

@@ -6,9 +6,9 @@ use mathlib.Core.List.{List, [], _∷_}
 use native.Mathlib.Omega.{arith}
 use borrow.Author.Tests.{ltb-false}
 use lib.ListN.{length, length-append}
-use Rattle.basics.specs.Refusals.{firstOf, answered, None}
+use Rattle.basics.specs.Refusals.{numberedUpTo, firstOf, answered, None}
 use Rattle.basics.proofs.Each.{each-length, each-up-to}
-use Rattle.basics.proofs.Firsts.{numberedUpTo, first-up-to, first-none, first-passed, rest-passed}
+use Rattle.basics.proofs.Firsts.{first-up-to, first-none, first-passed, rest-passed}
 use Rattle.message.specs.Messages.{badNode, messageBytes}
 use Rattle.range.specs.Range.{inBlock}
 use Rattle.node_rules.specs.declared.Call.{Call}
