@@ -1,5 +1,5 @@
 -- The walk of a call on a slot that writes, of announcing and of producing: they differ in the call alone that is made of the slot.
---     slotted          the code of such a function, where rv makes the call
+--     slotted          the compiled code of such a function, where rv makes the call: a proof that uses it for other code is refused
 --     slotted-meets    it meets its contract, where rv makes what is asked
 use Rattle.c_face.proofs.Walking.{refl, ℕ, _<_, _^_, List, [], _∷_, URA, fullShare, named, w64, vint, SProp, GName, ftrue, flft, Memory, Routine, Heap, WpFn, Tables}
 use Rattle.c_face.proofs.Walking.{Atoms, Lfts, Shares, Fun, Given, ‵, _⊛_, _$_, _∵_, !, qed, move, drop, group, split, join, fsplit, fjoin}
@@ -7,7 +7,7 @@ use Rattle.c_face.proofs.Walking.{suffices, done, look, init, lit, addr
 use Rattle.c_face.proofs.Walking.{fmOf, owns, flat, typesAt, u8, RefT, slice-vals, mut-slice-tells, uint-vals, uint-tells, nothing, Args, Vals, Meets, Triple}
 use Rattle.c_face.proofs.Walking.{says, ends-at, Node, Slot, fit, val, ptr, remade, sets, holds, frees1}
 use Rattle.c_face.proofs.Performing.{stayed, Short, none-short, node-val, node-vals, node-tells, slot-row, IsNode, node-typed, call-val, IsCall, call-typed, Walk}
-use Rattle.c_face.proofs.Performing.{by-walk, Perform, perform-name, Handing, none, performs, no-bytes, owns-call}
+use Rattle.c_face.proofs.Performing.{by-walk, Perform, perform-name, Handing, handing, none, performs, no-bytes, owns-call}
 use mir.Syntax.{Fn, w8, local, valueLocal, memorySlot, erased, imm, mut, Ty, tyInt, tyArray, tyRef, Rv as RValue, addrOf, aggregate, Opd as Operand, int, copy, place, field, deref, seq, assign, call, return}
 use mathlib.Core.Path.{_≡_}
 use prog.Wp.{Env}
@@ -68,19 +68,7 @@ module _ {M : Type 1} (𝓤 : URA M) (H : Heap 𝓤) (A : Atoms 𝓤) (W : Given
     at = (node-val node ∷ [], (vint w64 slot ∷ [], (slice-vals slots, (slice-vals out, tt))))
 
     abbrev h : ℕ → ℕ → GName → Handing
-    h l ν δ = record {
-      κ-bytes = ν ∷ [];
-      κ-slots = κs .0;
-      κ-out = κs .1 .0;
-      q-bytes = fullShare;
-      q-slots = qs .0;
-      q-out = qs .1 .0;
-      node = node;
-      asked = asked slot;
-      bytes = none l δ;
-      slots = slots;
-      out = out;
-    }
+    h l ν δ = handing (ν ∷ []) (κs .0) (κs .1 .0) fullShare (qs .0) (qs .1 .0) node (asked slot) (none l δ) slots out
 
     walk : IsNode node → slot < 2 ^ 64 → Short slots → Short out → Walk 𝓤 H A W 𝓣 f.ended asking (slotted rv) κs qs tt a at tt
     walk is n s o =
