@@ -147,6 +147,21 @@ pub record Handing : Type 0 where
   pub slots : RefT (List Slot)
   pub out : RefT (List ℕ)
 
+abbrev pub handing : (κ-bytes κ-slots κ-out : Lft) (q-bytes q-slots q-out : Share) → Node → Call → RefT (List ℕ) → RefT (List Slot) → RefT (List ℕ) → Handing
+handing κ-bytes κ-slots κ-out q-bytes q-slots q-out node asked bytes slots out = record {
+  κ-bytes = κ-bytes;
+  κ-slots = κ-slots;
+  κ-out = κ-out;
+  q-bytes = q-bytes;
+  q-slots = q-slots;
+  q-out = q-out;
+  node = node;
+  asked = asked;
+  bytes = bytes;
+  slots = slots;
+  out = out;
+}
+
 module _ (h : Handing) where
   abbrev κs : Lfts 3
   κs = (h .κ-bytes, (h .κ-slots, (h .κ-out, tt)))

@@ -4,7 +4,7 @@ use Rattle.c_face.proofs.Walking.{Given, ‵, _$_, _∵_, !, qed, move,
 use Rattle.c_face.proofs.Walking.{alloc0, params1, pass1, pass0, free0, agg, fmOf, owns, flat, typesAt, u8, RefT, slice-vals, shr-slice-tells, mut-slice-tells, nothing}
 use Rattle.c_face.proofs.Walking.{Args, Vals, Meets, tripleOf, Triple, entered, says, ends-at, Node, Slot, fit, val, ptr, remade, sets, holds, frees1}
 use Rattle.c_face.proofs.Performing.{stayed, Short, node-val, node-vals, node-tells, slot-row, IsNode, node-typed, IsCall, call-typed, call-made, Walk, by-walk, Perform}
-use Rattle.c_face.proofs.Performing.{perform-name, cites, Handing, Tokens, performs, owns-call}
+use Rattle.c_face.proofs.Performing.{perform-name, cites, Handing, handing, Tokens, performs, owns-call}
 use Rattle.node_rules.specs.declared.Call.the-variants.{Receive}
 use Rattle.c_face.proofs.records.hrislanoth_hear.Key
 use Rattle.c_face.proofs.records.hrislanoth_hear as f
@@ -24,19 +24,7 @@ module _ {M : Type 1} (𝓤 : URA M) (H : Heap 𝓤) (A : Atoms 𝓤) (W : Given
     at = (node-val node ∷ [], (slice-vals bytes, (slice-vals slots, (slice-vals out, tt))))
 
     abbrev h : Handing
-    h = record {
-      κ-bytes = κs .0;
-      κ-slots = κs .1 .0;
-      κ-out = κs .1 .1 .0;
-      q-bytes = qs .0;
-      q-slots = qs .1 .0;
-      q-out = qs .1 .1 .0;
-      node = node;
-      asked = Receive;
-      bytes = bytes;
-      slots = slots;
-      out = out;
-    }
+    h = handing (κs .0) (κs .1 .0) (κs .1 .1 .0) (qs .0) (qs .1 .0) (qs .1 .1 .0) node Receive bytes slots out
 
     walk : IsNode node → Short bytes → Short slots → Short out → Walk 𝓤 H A W 𝓣 f.ended (f.clauses 𝓤 H A mem run) code.function κs qs tt a at tt
     walk is b s o =

@@ -5,7 +5,7 @@ use Rattle.c_face.proofs.Walking.{lit, addr, from, stop, and-then, no-m
 use Rattle.c_face.proofs.Walking.{u8, RefT, slice-vals, mut-slice-tells, nothing, Args, Vals, Meets, tripleOf, Triple, entered, says, ends-at, Node, Slot, fit, val, ptr}
 use Rattle.c_face.proofs.Walking.{remade, sets, holds, frees1}
 use Rattle.c_face.proofs.Performing.{stayed, Short, none-short, node-val, node-vals, node-tells, slot-row, IsNode, node-typed, IsCall, call-typed, call-made, Walk}
-use Rattle.c_face.proofs.Performing.{by-walk, Perform, perform-name, cites, Handing, none, performs, no-bytes, owns-call}
+use Rattle.c_face.proofs.Performing.{by-walk, Perform, perform-name, cites, Handing, handing, none, performs, no-bytes, owns-call}
 use Rattle.node_rules.specs.declared.Call.the-variants.{Initialise}
 use Rattle.c_face.proofs.records.hrislanoth_initialise.Key
 use Rattle.c_face.proofs.records.hrislanoth_initialise as f
@@ -25,19 +25,7 @@ module _ {M : Type 1} (𝓤 : URA M) (H : Heap 𝓤) (A : Atoms 𝓤) (W : Given
     at = (node-val node ∷ [], (slice-vals slots, (slice-vals out, tt)))
 
     abbrev h : ℕ → ℕ → GName → Handing
-    h l ν δ = record {
-      κ-bytes = ν ∷ [];
-      κ-slots = κs .0;
-      κ-out = κs .1 .0;
-      q-bytes = fullShare;
-      q-slots = qs .0;
-      q-out = qs .1 .0;
-      node = node;
-      asked = Initialise;
-      bytes = none l δ;
-      slots = slots;
-      out = out;
-    }
+    h l ν δ = handing (ν ∷ []) (κs .0) (κs .1 .0) fullShare (qs .0) (qs .1 .0) node Initialise (none l δ) slots out
 
     walk : IsNode node → Short slots → Short out → Walk 𝓤 H A W 𝓣 f.ended (f.clauses 𝓤 H A mem run) code.function κs qs tt a at tt
     walk is s o =

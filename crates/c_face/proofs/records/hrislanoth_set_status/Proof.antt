@@ -5,7 +5,7 @@ use Rattle.c_face.proofs.Walking.{fjoin, feqL, suffices, done, look, in
 use Rattle.c_face.proofs.Walking.{free0, agg, fmOf, owns, flat, typesAt, RefT, slice-vals, mut-slice-tells, uint-vals, uint-tells, nothing, Args, Vals, Meets, tripleOf}
 use Rattle.c_face.proofs.Walking.{Triple, entered, says, ends-at, Node, without-output, Slot, fit, val, ptr, remade, sets, holds, frees1}
 use Rattle.c_face.proofs.Performing.{stayed, Short, none-short, node-val, node-vals, node-tells, slot-row, IsNode, node-typed, IsCall, call-typed, call-made, Walk}
-use Rattle.c_face.proofs.Performing.{by-walk, Perform, perform-name, cites, Handing, none, performs, no-bytes, no-output, owns-call}
+use Rattle.c_face.proofs.Performing.{by-walk, Perform, perform-name, cites, Handing, handing, none, performs, no-bytes, no-output, owns-call}
 use Rattle.node_rules.specs.declared.Call.the-variants.{SetStatus}
 use Rattle.c_face.proofs.records.hrislanoth_set_status.Key
 use Rattle.c_face.proofs.records.hrislanoth_set_status as f
@@ -25,19 +25,7 @@ module _ {M : Type 1} (𝓤 : URA M) (H : Heap 𝓤) (A : Atoms 𝓤) (W : Given
     at = (node-val node ∷ [], (vint w64 slot ∷ [], (vint w8 status ∷ [], (slice-vals slots, tt))))
 
     abbrev h : ℕ → ℕ → GName → ℕ → ℕ → GName → Handing
-    h l ν δ l′ ν′ δ′ = record {
-      κ-bytes = ν ∷ [];
-      κ-slots = κs .0;
-      κ-out = ν′ ∷ [];
-      q-bytes = fullShare;
-      q-slots = qs .0;
-      q-out = fullShare;
-      node = node;
-      asked = SetStatus slot status;
-      bytes = none l δ;
-      slots = slots;
-      out = none l′ δ′;
-    }
+    h l ν δ l′ ν′ δ′ = handing (ν ∷ []) (κs .0) (ν′ ∷ []) fullShare (qs .0) fullShare node (SetStatus slot status) (none l δ) slots (none l′ δ′)
 
     walk : IsNode node → slot < 2 ^ 64 → status < 2 ^ 8 → Short slots → Walk 𝓤 H A W 𝓣 f.ended (f.clauses 𝓤 H A mem run) code.function κs qs tt a at tt
     walk is n u s =
