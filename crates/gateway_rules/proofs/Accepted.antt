@@ -5,14 +5,12 @@ use mathlib.Core.Logic.{_↔_}
 use mathlib.Core.Bool.{false}
 use mathlib.Core.List.{List, [], _∷_, _++_, append-nil, append-assoc}
 use native.Mathlib.Omega.{arith}
-use Rattle.message.specs.declared.Reading.the-variants.{Read, Refused}
-use Rattle.message.specs.Reading.{messageIn}
-use Rattle.basics.specs.Refusals.{firstOf, answered}
+use Rattle.basics.specs.Refusals.{firstOf}
 use Rattle.gateway_rules.specs.State.{Gate, outOfBounds}
 use Rattle.gateway_rules.specs.Step.{stepTests, step, start}
-use Rattle.gateway_rules.specs.History.{Entry, after, Heard, heardAt, heardOf, accepted, messageOf}
+use Rattle.gateway_rules.specs.History.{Entry, after, Heard, heardOf, accepted, messageOf}
 use Rattle.gateway_rules.proofs.Sending.{refusal-first}
-use Rattle.gateway_rules.proofs.Hearing.{heard-by-number}
+use Rattle.gateway_rules.proofs.Hearing.{heardBy, heard-by-number}
 use Rattle.gateway_rules.proofs.Demand3.{start-box}
 use Rattle.gateway_rules.proofs.Distinct.{always-in-bounds}
 
@@ -22,8 +20,8 @@ one-or-none : (s : Heard) → s ∷ [] ≡ [] → ⊥
 one-or-none s e = let z : _≡_ {A = ℕ} 0 1 = cc in omega arith
 
 by-number : (e : Entry) (n : ℕ)
-    → ((n ≡ 0) ↔ (heardAt (e .port) (answered Read Refused n (messageIn (e .bytes))) ≡ messageOf e ∷ []))
-    × ((n ≡ 0 → ⊥) ↔ (heardAt (e .port) (answered Read Refused n (messageIn (e .bytes))) ≡ []))
+    → ((n ≡ 0) ↔ (heardBy e n ≡ messageOf e ∷ []))
+    × ((n ≡ 0 → ⊥) ↔ (heardBy e n ≡ []))
 by-number e zero = ((λ _. refl, λ _. refl), (λ h. absurd (h refl), λ z. absurd (one-or-none (messageOf e) z)))
 by-number e (suc n) = ((λ z. let w : ⊥ = omega (arith, z) in absurd w, λ z. absurd (one-or-none (messageOf e) (sym z))), (λ _. refl, λ _ z. omega (arith, z)))
 

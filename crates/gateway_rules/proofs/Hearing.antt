@@ -9,9 +9,10 @@ use Rattle.message.specs.declared.Message.{Message}
 use Rattle.message.specs.declared.Reading.{Reading}
 use Rattle.message.specs.declared.Reading.the-variants.{Read, Refused}
 use Rattle.message.specs.Messages.{badNode, badWherePresent, badNodes}
-use Rattle.message.specs.Reading.{messageIn, readTests, readOf}
-use Rattle.basics.specs.Refusals.{firstOf, answered}
+use Rattle.message.specs.Reading.{messageIn, readTests, readingTold, readTold, readOf}
+use Rattle.basics.specs.Refusals.{firstOf, answered, Told, told, refused}
 use Rattle.message.proofs.Exactly.{read-accepted}
+use Rattle.message.proofs.Tellings.{read-told}
 use Rattle.basics.proofs.Firsts.{first-passed, rest-passed}
 use Rattle.basics.proofs.Bools.{neither}
 use Rattle.gateway_rules.specs.State.{Gate, outOfBounds}
@@ -36,14 +37,15 @@ left-box g (s ∷ h) =
 -- ---- one entry
 
 -- What is heard goes by the number that the step answers: its message for 0, else nothing.
-pub heard-by-number : (g : Gate) (e : Entry) → outOfBounds g ≡ false
-    → heardOf (g .ports) e ≡ heardAt (e .port) (answered Read Refused (firstOf (stepTests g (e .port) (e .bytes))) (messageIn (e .bytes)))
-unfolding readOf
+abbrev pub heardBy : Entry → ℕ → List Heard
+heardBy e n = heardAt (e .port) (answered (λ m. told (m ∷ [])) (λ k. refused k []) n (messageIn (e .bytes)))
+
+pub heard-by-number : (g : Gate) (e : Entry) → outOfBounds g ≡ false → heardOf (g .ports) e ≡ heardBy e (firstOf (stepTests g (e .port) (e .bytes)))
+unfolding readTold
 heard-by-number g e i = rw i (go (ltb (e .port) (g .ports)) refl)
   where
     go : (t : Bool) → ltb (e .port) (g .ports) ≡ t
-        → cond t (heardAt (e .port) (answered Read Refused (firstOf (readTests (e .bytes))) (messageIn (e .bytes)))) []
-        ≡ heardAt (e .port) (answered Read Refused (cond (leb (g .ports) (e .port)) 8 (firstOf (readTests (e .bytes)))) (messageIn (e .bytes)))
+        → cond t (heardBy e (firstOf (readTests (e .bytes)))) [] ≡ heardBy e (cond (leb (g .ports) (e .port)) 8 (firstOf (readTests (e .bytes))))
     go true f = rw (lt-leb (g .ports) (e .port) (ltb-true (e .port) (g .ports) f))
     go false f = rw (le-leb (g .ports) (e .port) (ltb-false (e .port) (g .ports) f))
 
@@ -52,8 +54,7 @@ pub step-heard : (g : Gate) (e : Entry) → outOfBounds g ≡ false → step g (
 unfolding step
 step-heard g e i = go (firstOf (stepTests g (e .port) (e .bytes))) ∙ ap (leftBy g) (sym (heard-by-number g e i))
   where
-    go : (n : ℕ) → answered (taking g (e .port)) (refusing g) n (messageIn (e .bytes)) .next
-        ≡ leftBy g (heardAt (e .port) (answered Read Refused n (messageIn (e .bytes))))
+    go : (n : ℕ) → answered (taking g (e .port)) (refusing g) n (messageIn (e .bytes)) .next ≡ leftBy g (heardBy e n)
     go zero = refl
     go (suc n) = refl
 
@@ -66,9 +67,11 @@ read-source bytes m e =
     ap (λ (x : Message). badNode (x .source)) (h .1) ∙ neither (badNode (messageIn bytes .source)) (badWherePresent (messageIn bytes .destination)) nodes .0
 
 pub heard-bounded : (g : Gate) (e : Entry) → Bounded g → Bounded (leftBy g (heardOf (g .ports) e))
-heard-bounded g e i = go (ltb (e .port) (g .ports)) refl (readOf (e .bytes)) refl
+heard-bounded g e i =
+    subst (λ (t : Told (List Message)). Bounded (leftBy g (cond (ltb (e .port) (g .ports)) (heardAt (e .port) t) []))) (read-told (e .bytes))
+    (go (ltb (e .port) (g .ports)) refl (readOf (e .bytes)) refl)
   where
-    go : (t : Bool) → ltb (e .port) (g .ports) ≡ t → (r : Reading) → readOf (e .bytes) ≡ r → Bounded (leftBy g (cond t (heardAt (e .port) r) []))
+    go : (t : Bool) → ltb (e .port) (g .ports) ≡ t → (r : Reading) → readOf (e .bytes) ≡ r → Bounded (leftBy g (cond t (heardAt (e .port) (readingTold r)) []))
     go true f (Read m) k = bounded-taken g (e .port) m i (ltb-true (e .port) (g .ports) f) (read-source (e .bytes) m k)
     go true f (Refused n) k = i
     go false f r k = i

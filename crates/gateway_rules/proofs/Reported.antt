@@ -9,12 +9,12 @@ use lib.Dec.{eqb}
 use Rattle.message.specs.declared.Kind.the-variants.{EventReport}
 use Rattle.message.specs.declared.Message.{Message}
 use Rattle.message.specs.declared.Reading.the-variants.{Read}
-use Rattle.message.specs.Mti.{isReport, carriesEvent, eventAt, kindOf}
+use Rattle.message.specs.Mti.{isReport, carriesEvent, eventAt, kindOf, mtisOf}
 use Rattle.numbers.specs.Numbers.{numberAt}
 use Rattle.message.specs.Reading.{fieldAt, fieldsIn, mtiIn, readOf}
 use Rattle.message.proofs.Exactly.{read-accepted}
 use Rattle.message.proofs.Sayings.{says-report}
-use Rattle.message.proofs.KindsOfMti.{mtisOf, kind-exactly}
+use Rattle.message.proofs.KindsOfMti.{kind-exactly}
 use Rattle.gateway_rules.specs.History.{Reports}
 use Rattle.gateway_rules.proofs.Holding.{either-true}
 

@@ -5,15 +5,14 @@ use mathlib.Core.Bool.{Bool, true, false, cond, not, _&&_}
 use mathlib.Core.List.{List, [], _∷_, _++_, map}
 use lib.Dec.{eqb, ltb}
 use lib.ListN.{length}
+use Rattle.basics.specs.Refusals.{Told}
 use Rattle.basics.specs.Since.{Since}
 use Rattle.range.specs.declared.Block.{Block}
 use Rattle.range.specs.Range.{inBlock}
 use Rattle.message.specs.declared.Message.{Message}
-use Rattle.message.specs.declared.Reading.{Reading}
-use Rattle.message.specs.declared.Reading.the-variants.{Read, Refused}
 use Rattle.message.specs.declared.Saying.{Saying}
 use Rattle.message.specs.declared.Saying.the-variants.{Report, Announcement, Restart, Inquiry, InquiryForAll, Learn, Nothing}
-use Rattle.message.specs.Reading.{messageIn, readOf}
+use Rattle.message.specs.Reading.{messageIn, readTold}
 use Rattle.message.specs.Saying.{saidBy}
 use Rattle.gateway_rules.specs.State.{Gate, full}
 use Rattle.gateway_rules.specs.Step.{line, has, taken, step}
@@ -35,13 +34,13 @@ pub record Heard : Type 0 where
   pub port : ℕ
   pub message : Message
 
-abbrev pub heardAt : ℕ → Reading → List Heard
-heardAt q (Read m) = record { port = q; message = m } ∷ []
-heardAt q (Refused n) = []
+-- What reading tells at a port: the message, or nothing beside a refusal.
+abbrev pub heardAt : ℕ → Told (List Message) → List Heard
+heardAt q t = map (λ m. record { port = q; message = m }) (t .value)
 
 -- A message is accepted where its port is below the port count and its bytes are read.
 abbrev pub heardOf : ℕ → Entry → List Heard
-heardOf ports e = cond (ltb (e .port) ports) (heardAt (e .port) (readOf (e .bytes))) []
+heardOf ports e = cond (ltb (e .port) ports) (heardAt (e .port) (readTold (e .bytes))) []
 
 unfoldable pub accepted : ℕ → List Entry → List Heard
 accepted ports [] = []

@@ -9,8 +9,7 @@ use Rattle.basics.proofs.Bools.{both}
 use Rattle.message.specs.declared.Kind.{Kind}
 use Rattle.message.specs.declared.Kind.the-variants.{InitializationComplete, EventReport, IdentifyConsumer, IdentifyProducer, ConsumerIdentified, ProducerIdentified, ConsumerRangeIdentified, ProducerRangeIdentified, IdentifyEvents, LearnEvent, Other}
 use Rattle.message.specs.declared.Meaning.{Meaning}
-use Rattle.message.specs.Mti.{sameKind, Row, table, other, lookup, meaningOf, kindOf, oneOf, known}
-unfoldable pub use Rattle.message.specs.Mti.{mtisOf}
+use Rattle.message.specs.Mti.{sameKind, Row, table, other, lookup, meaningOf, kindOf, mtisOf, oneOf, known}
 
 -- ---- a question of the table and a list of MTIs that answer alike
 

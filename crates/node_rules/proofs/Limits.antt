@@ -95,14 +95,14 @@ happened-binary {b = b} t (restarts i h) = record {
 }
 happened-binary {b = b} t (identifies js matches i h s) = record { state = t .state; marks = advertising-binary js (b .slots) (t .marks) }
 happened-binary t (reports i f h s r m) = t
-happened-binary t (sets i status f) = record { state = t .state; marks = t .marks }
+happened-binary t (sets i status f l) = record { state = t .state; marks = t .marks }
 
 happened-marks : {b : Board} {c : Call} {o : Outcome} → Happened b c o → length (o .next .slots .marks) ≡ length (b .slots .marks)
 happened-marks (refused n h) = refl
 happened-marks {b = b} (restarts i h) = each-length (length (b .slots .marks)) _
 happened-marks {b = b} (identifies js matches i h s) = advertising-length js (b .slots)
 happened-marks (reports i f h s r m) = refl
-happened-marks (sets i status f) = refl
+happened-marks (sets i status f l) = refl
 
 module _ (b : Board) (call : Call) (bytes : List ℕ) (room : ℕ) where
   pub call-binary : Binary b → Binary (outcome b call bytes room .next)
