@@ -17,9 +17,9 @@ use Rattle.basics.specs.Refusals.{firstOf, answered}
 use Rattle.basics.specs.Lists.{any}
 use Rattle.gateway_rules.specs.State.{Gate, badPorts, startOf}
 use Rattle.gateway_rules.specs.Step.{line, lineHolds, wants, wantedAt, goesTo, taking, refusing, stepTests, Outcome, step, start}
-use Rattle.gateway_rules.specs.History.{Entry, after, Heard, accepted, leftBy, Live, Opened, Reports, HeldBack}
+use Rattle.gateway_rules.specs.History.{Entry, after, Heard, accepted, leftBy, Live, Opened, Holds, Reports, HeldBack}
 use Rattle.gateway_rules.proofs.Lists.{has-any, any-has}
-use Rattle.gateway_rules.proofs.Holding.{Holds, holds-always, true-or-false}
+use Rattle.gateway_rules.proofs.Holding.{holds-always, true-or-false}
 use Rattle.gateway_rules.proofs.Bounds.{bounded-start}
 use Rattle.gateway_rules.proofs.Hearing.{left-box, history-left}
 

@@ -108,3 +108,8 @@ pub same-words : concerning 1 (carrying 0x04C4 7 ∷ carrying 0x04A4 0 ∷ resta
     ≡ concerning 1 (carrying 0x04C5 7 ∷ carrying 0x04A4 0xFFFFFFFFFFFFFFFF ∷ restarting 0x0110 ∷ [])
 unfolding concerning saidBy meaningOf blockOf run bitsEqual
 same-words = refl
+
+-- What comes in by another port is left out, and so is a report.
+pub others-left-out : concerning 2 (carrying 0x04C4 7 ∷ restarting 0x0100 ∷ []) ++ concerning 1 (carrying 0x05B4 7 ∷ []) ≡ []
+unfolding concerning saidBy meaningOf
+others-left-out = refl

@@ -18,7 +18,7 @@ use Rattle.gateway_rules.specs.declared.Line.{Line}
 use Rattle.gateway_rules.specs.State.{Gate, full}
 use Rattle.gateway_rules.specs.Step.{line, sameLine, has, ownedAt}
 use Rattle.basics.specs.Lists.{without}
-use Rattle.gateway_rules.specs.History.{Heard, changing, Announces, Restarts, Live, leftBy, Overflows, Opened}
+use Rattle.gateway_rules.specs.History.{Heard, changing, Announces, Restarts, Live, leftBy, Overflows, Opened, Holds}
 use Rattle.gateway_rules.proofs.Lists.{same-line, has-append, has-without}
 use Rattle.basics.proofs.Lists.{length-without}
 use Rattle.basics.proofs.Sinces.{by-end, since-none, since-new, since-old, since-end}
@@ -78,14 +78,7 @@ announced-line {b = b} {b′ = b′} {s = s} a e =
     announced-once : (x y : Block) → Announcement x ≡ Announcement y → x ≡ y
     announced-once x y p = cc
 
--- ---- the invariant
-
-pub record Holds (start g : Gate) (h : List Heard) : Type 0 where
-  pub live-lines : (p n : ℕ) (b : Block) → Live h p n b → (has (g .lines) (line p n b) ≡ true) ⊎ Opened start h p
-  pub lines-live : (l : Line) → has (g .lines) l ≡ true → Live h (l .port) (l .node) (l .block)
-  pub opened-marks : (p : ℕ) → Opened start h p → g .marked p ≡ true
-  pub marks-opened : (p : ℕ) → g .marked p ≡ true → Opened start h p
-  pub few : length (g .lines) ≤ full
+-- ---- one message later
 
 -- A line that a restart removes is one of the node that restarts, at the port where it does.
 owned : (q n : ℕ) (l : Line) → ownedAt q n l ≡ true → (l .port ≡ q) × (l .node ≡ n)

@@ -149,15 +149,19 @@ shared ports r s h k closed-h closed-k p same q bytes e m l n a =
     (λ t. one .1 (held-shared g (accepted ports k) (accepted ports h) p e closed-h (sym same) (two .0 t)))
 
 -- Two histories with the same port count and automatic block, in neither of which any port opens: if the accepted announcements and
--- restarts at p say the same in the same order, the same report arriving at the same other port gets the same answer for p.
+-- restarts at p say the same in the same order, a report that is accepted at another port
+-- after the one is accepted there after the other, and gets the same answer for p.
 pub sharing : (ports r r′ : ℕ) → blockOf r ≡ blockOf r′ → start ports r .refusal ≡ 0 → (h k : List Entry)
     → ((q : ℕ) → Opened (start ports r .next) (accepted ports h) q → ⊥)
     → ((q : ℕ) → Opened (start ports r′ .next) (accepted ports k) q → ⊥)
     → (p : ℕ) → concerning p (accepted ports h) ≡ concerning p (accepted ports k)
     → (q : ℕ) (bytes : List ℕ) (e : ℕ) → Reports e (messageIn bytes) → p < ports → (p ≡ q → ⊥)
     → step (after (start ports r .next) h) q bytes .refusal ≡ 0
-    → step (after (start ports r .next) h) q bytes .to p ≡ step (after (start ports r′ .next) k) q bytes .to p
+    → (step (after (start ports r′ .next) k) q bytes .refusal ≡ 0)
+    × (step (after (start ports r .next) h) q bytes .to p ≡ step (after (start ports r′ .next) k) q bytes .to p)
 sharing ports r r′ block s h k closed-h closed-k p same q bytes e m l n a =
-    let begun : start ports r′ .next ≡ start ports r .next = ap (λ (o : Outcome). o .next) (sym (same-start ports r r′ block)) in
-    shared ports r s h k closed-h (subst (λ (g : Gate). (x : ℕ) → Opened g (accepted ports k) x → ⊥) begun closed-k) p same q bytes e m l n a
-    ∙ ap (λ (g : Gate). step (after g k) q bytes .to p) (sym begun)
+    let begun : start ports r′ .next ≡ start ports r .next = ap (λ (o : Outcome). o .next) (sym (same-start ports r r′ block)) in (
+      subst (λ (g : Gate). step (after g k) q bytes .refusal ≡ 0) (sym begun) (accepted-again ports r s h k q bytes a),
+      shared ports r s h k closed-h (subst (λ (g : Gate). (x : ℕ) → Opened g (accepted ports k) x → ⊥) begun closed-k) p same q bytes e m l n a
+          ∙ ap (λ (g : Gate). step (after g k) q bytes .to p) (sym begun),
+    )

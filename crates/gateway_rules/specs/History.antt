@@ -1,6 +1,7 @@
 -- Histories: accepted messages, live announcements and opened ports (document 01, "Gateway": "For demand 3").
-use Prim.Native.Nat.{ℕ}
+use Prim.Native.Nat.{ℕ, _≤_}
 use mathlib.Core.Path.{_≡_}
+use mathlib.Core.Logic.{_⊎_}
 use mathlib.Core.Bool.{Bool, true, false, cond, not, _&&_}
 use mathlib.Core.List.{List, [], _∷_, _++_, map}
 use lib.Dec.{eqb, ltb}
@@ -14,6 +15,7 @@ use Rattle.message.specs.declared.Saying.{Saying}
 use Rattle.message.specs.declared.Saying.the-variants.{Report, Announcement, Restart, Inquiry, InquiryForAll, Learn, Nothing}
 use Rattle.message.specs.Reading.{messageIn, readTold}
 use Rattle.message.specs.Saying.{saidBy}
+use Rattle.gateway_rules.specs.declared.Line.{Line}
 use Rattle.gateway_rules.specs.State.{Gate, full}
 use Rattle.gateway_rules.specs.Step.{line, has, taken, step}
 use Rattle.basics.specs.Lists.{without}
@@ -46,9 +48,9 @@ unfoldable pub accepted : ℕ → List Entry → List Heard
 accepted ports [] = []
 accepted ports (e ∷ h) = heardOf ports e ++ accepted ports h
 
--- The message that an entry's bytes hold, at its port.
-abbrev pub messageOf : Entry → Heard
-messageOf e = record { port = e .port; message = messageIn (e .bytes) }
+-- An entry heard: the message that its bytes hold, at its port.
+abbrev pub asHeard : Entry → Heard
+asHeard e = record { port = e .port; message = messageIn (e .bytes) }
 
 -- ---- what a message says
 
@@ -85,6 +87,16 @@ pub record Overflows (g : Gate) (p : ℕ) (before : List Heard) (s : Heard) : Ty
 
 unfoldable pub Opened : Gate → List Heard → ℕ → Type 0
 Opened g h p = Since (Overflows g p) (λ _. ⊥) h
+
+-- ---- what the table and the marks say of the accepted messages
+
+-- A live announcement has a line or its port was opened, a line is live, the marks are the opened ports, and there are at most 256 lines.
+pub record Holds (start g : Gate) (h : List Heard) : Type 0 where
+  pub live-lines : (p n : ℕ) (b : Block) → Live h p n b → (has (g .lines) (line p n b) ≡ true) ⊎ Opened start h p
+  pub lines-live : (l : Line) → has (g .lines) l ≡ true → Live h (l .port) (l .node) (l .block)
+  pub opened-marks : (p : ℕ) → Opened start h p → g .marked p ≡ true
+  pub marks-opened : (p : ℕ) → g .marked p ≡ true → Opened start h p
+  pub few : length (g .lines) ≤ full
 
 -- ---- demand 3
 

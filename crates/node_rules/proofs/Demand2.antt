@@ -86,7 +86,7 @@ unfolding IdentifiedSince
 now-identified h d e w = since-new _ _ h d w
 
 not-restarted : (d : Done) → isInitialise (d .call) ≡ false → restarts d ≡ false
-not-restarted d f = ap (λ (t : Bool). t && eqb (d .refusal) 0) f
+not-restarted d f = rw f
 
 module _ (start : Board) where
   holds-start : New start → Holds start start []
@@ -106,7 +106,7 @@ module _ (start : Board) where
     }
 
     holds-next : {o : Outcome} → Happened b (c .call) o → Holds start (o .next) (h ++ (doneBy c o ∷ []))
-    holds-next (refused n z) = holds-kept (doneBy c (refusing b n)) (ap (λ (t : Bool). isInitialise (c .call) && t) (ne-eqb n 0 z) ∙ and-false (isInitialise (c .call)))
+    holds-next (refused n z) = holds-kept (doneBy c (refusing b n)) (rw (ne-eqb n 0 z) (and-false (isInitialise (c .call))))
     holds-next (restarting i g) = record {
       automatic = p .automatic;
       fit = p .fit;

@@ -13,7 +13,7 @@ use Rattle.message.specs.Messages.{badNode, messageBytes}
 use Rattle.range.specs.Range.{inBlock}
 use Rattle.node_rules.specs.declared.Call.{Call}
 use Rattle.node_rules.specs.declared.Call.the-variants.{Initialise, Announce, Produce, SetStatus, Receive}
-use Rattle.node_rules.specs.Boards.{Slots, Board, initialized, advertised, unadvertised, eventOf, markOf, advertise}
+use Rattle.node_rules.specs.Boards.{Binary, Slots, Board, initialized, advertised, unadvertised, eventOf, markOf, advertise}
 use Rattle.node_rules.specs.Sending.{completeBy, wholeBytes, advertising}
 use Rattle.node_rules.specs.Calls.{Outcome, refusing, accepted, size, testsOf, outcome}
 use Rattle.node_rules.proofs.Pieces.{complete-content, complete-length}
@@ -68,11 +68,6 @@ module _ (b : Board) (call : Call) (bytes : List ℕ) (room : ℕ) where
       omega (arith, i .marks, i .few)
 
 -- ---- state and marks
-
--- The state and every mark are 0 or 1.
-pub record Binary (b : Board) : Type 0 where
-  pub state : b .node .state ≤ initialized
-  pub marks : (i : ℕ) → markOf (b .slots) i ≤ advertised
 
 mark-or : (t : Bool) (old : ℕ) → old ≤ advertised → cond t advertised old ≤ advertised
 mark-or true old h = omega arith

@@ -1,12 +1,13 @@
 -- That nothing above is vacuous, by computation: a new node whose report is written, and a node that answers Identify Events.
 use Prim.Native.Nat.{ℕ, zero, suc, _^_, _<_}
-use mathlib.Core.Path.{_≡_, refl}
-use mathlib.Core.Bool.{true, false}
+use mathlib.Core.Path.{_≡_, refl, sym, _∙_}
+use mathlib.Core.Logic.{⊎-elim}
+use mathlib.Core.Bool.{true, false, false≢true}
 use mathlib.Core.List.{List, [], _∷_, _++_}
 use native.Mathlib.Omega.{arith}
 use Rattle.range.specs.Range.{isBlock, inBlock, hasNumber}
 use Rattle.numbers.specs.Numbers.{spelled, bytesOf}
-use Rattle.message.specs.declared.Kind.the-variants.{EventReport}
+use Rattle.message.specs.declared.Kind.the-variants.{EventReport, ProducerIdentified}
 use Rattle.message.specs.Mti.{meaningOf}
 use Rattle.message.specs.Messages.{badNodes, badContent, otherSource}
 use Rattle.message.specs.Reading.{fieldsIn, readTold}
@@ -18,7 +19,8 @@ use Rattle.basics.specs.Lists.{each}
 use Rattle.node_rules.specs.Sending.{withEvent, identifiedMti}
 use Rattle.node_rules.specs.Hearing.{heardBy, chosen, answering}
 use Rattle.node_rules.specs.Calls.{outcome}
-use Rattle.node_rules.specs.Histories.{Made, givenBy, done, after, messagesUpTo, wrote, New, IdentifiedSince, log}
+use Rattle.node_rules.specs.Histories.{Made, givenBy, done, after, messagesUpTo, wrote, New, restarts, IdentifiedSince, log}
+use Rattle.basics.proofs.Sinces.{since-end}
 use Rattle.node_rules.proofs.Demand2.{reports-identified}
 
 -- A signal board: slots 0 and 1 produce the same event, slot 2 consumes it, slot 3 consumes an automatic one.
@@ -79,10 +81,24 @@ outside = refl
 pub something-identified : IdentifiedSince event (log board twoCalls)
 something-identified = reports-identified board new twoCalls (made (Produce 1) 16) event outside reported
 
+-- The initialisation after them identifies nothing and is accepted.
+unsaid : wrote ProducerIdentified event (done (after board twoCalls) (made Initialise 14)) ≡ false
+unfolding outcome outOfBounds hasNumber isBlock inBlock each identifiedMti messagesUpTo meaningOf readTold fieldsIn badNodes badContent otherSource spelled bytesOf
+unsaid = refl
+
+ended : restarts (done (after board twoCalls) (made Initialise 14)) ≡ true
+unfolding outcome outOfBounds hasNumber isBlock inBlock each identifiedMti meaningOf bytesOf
+ended = refl
+
 -- Restarted, the same call is refused with 12.
 pub restart-forgets : givenBy (after board (twoCalls ++ (made Initialise 14 ∷ []))) (made (Produce 1) 16) .refusal ≡ 12
 unfolding outcome outOfBounds hasNumber isBlock inBlock each identifiedMti meaningOf bytesOf
 restart-forgets = refl
+
+-- And nothing is identified since: the restart has ended it.
+pub restart-ends : IdentifiedSince event (log board (twoCalls ++ (made Initialise 14 ∷ []))) → ⊥
+unfolding IdentifiedSince
+restart-ends s = ⊎-elim (λ w. false≢true (sym unsaid ∙ w)) (λ k. k .1 ended) (since-end _ _ (log board twoCalls) (done (after board twoCalls) (made Initialise 14)) s)
 
 -- Slot 0, whose status is unknown, is announced as that.
 pub announced : givenBy (after board (made Initialise 14 ∷ [])) (made (Announce 0) 16) .sent ≡ withEvent 0x0547 0x0A0000000001 event ∷ []

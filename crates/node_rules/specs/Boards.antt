@@ -1,5 +1,5 @@
 -- A node and its slots (document 01, "Node": "A slot has ..", "Out of bounds").
-use Prim.Native.Nat.{ℕ}
+use Prim.Native.Nat.{ℕ, _≤_}
 use mathlib.Core.Bool.{Bool, not, _&&_, _||_, cond}
 use mathlib.Core.List.{List}
 use lib.Dec.{eqb, ltb}
@@ -61,6 +61,11 @@ statusOf s i = getD (s .statuses) i 0
 
 abbrev pub markOf : Slots → ℕ → ℕ
 markOf s i = getD (s .marks) i 0
+
+-- The state and every mark are one of the two numbers that they can be.
+pub record Binary (b : Board) : Type 0 where
+  pub state : b .node .state ≤ initialized
+  pub marks : (i : ℕ) → markOf (b .slots) i ≤ advertised
 
 -- Slot i has a role and an Event ID.
 abbrev pub hasAt : List ℕ → List ℕ → ℕ → ℕ → ℕ → Bool
