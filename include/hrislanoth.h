@@ -1,7 +1,8 @@
 /* The proved box and boards, for C and for what links with C.
  *
- * Every function answers every input that C can write down: a refusal has a number (document 01, "Refusal numbers"), 0 is none, and beside a refusal
- * every other number is 0, no output byte changes and a box or board comes back as it was. Nothing is kept between calls and nothing is allocated.
+ * Every function answers every input that C can write down: a refusal has a number (document 01, "Refusal numbers"), 0 is none. A refusal changes
+ * no output byte; a box or a board comes back as it was, a lent box's marks and count as they were, and every other number beside it is 0. Nothing is kept
+ * between calls and nothing is allocated.
  *
  * Memory is the caller's. A pointer and a length stand for that many bytes, or that many numbers or slots of a list, which the caller owns and keeps for the
  * call, and which no other thread writes meanwhile, or reads where the call writes. No pointer is kept. A pointer is never NULL, not even beside the length 0.
@@ -104,7 +105,7 @@ typedef struct {
     size_t count;
 } hrislanoth_lent_answer;
 
-/* A box with no lines and no open marks. 8 where ports is not 2 to 8: the box then has 0 ports. */
+/* A box with no lines and no open marks. 8 where ports is not 2 to 8: the box then has 0 ports, and every call refuses it with 7. */
 hrislanoth_answer hrislanoth_start(uint8_t ports, uint64_t automatic);
 
 /* A message at a port. 7 where the box is out of bounds, 8 where it has no such port, 1 to 5 where the message cannot be read. */

@@ -11,7 +11,7 @@ why_no_text() {
     echo "it has a zero byte"
   elif [ "$(LC_ALL=C tr -d '\t\n\r\40-\176\200-\377' <"$1" | wc -c)" -gt 0 ]; then
     echo "it has a control byte"
-  elif ! iconv -f UTF-8 -t UTF-8 "$1" >/dev/null 2>&1; then
+  elif command -v iconv >/dev/null && ! iconv -f UTF-8 -t UTF-8 "$1" >/dev/null 2>&1; then
     echo "it has a byte that is not UTF-8"
   fi
 }

@@ -10,10 +10,12 @@ use Rattle.message.specs.declared.Field.the-variants.{Present, Absent}
 use Rattle.message.specs.Mti.{meaningOf}
 use Rattle.message.specs.Messages.{badNodes, badContent, otherSource}
 use Rattle.message.specs.Reading.{fieldsIn}
+use Rattle.message.specs.declared.Saying.{Saying}
+use Rattle.message.specs.declared.Saying.the-variants.{Announcement, Restart}
 use Rattle.message.specs.Saying.{saidBy}
 use Rattle.gateway_rules.specs.State.{Gate, outOfBounds, startOf}
 use Rattle.gateway_rules.specs.Step.{announce, taken, wants, goesTo, step}
-use Rattle.gateway_rules.specs.History.{Entry, Heard, Live, leftBy, concerning}
+use Rattle.gateway_rules.specs.History.{Entry, Heard, Live, leftBy, Word, concerning}
 use Rattle.gateway_rules.proofs.Holding.{no-restart}
 use Rattle.basics.specs.Since.Never.{nothing, nor}
 
@@ -103,11 +105,17 @@ carrying mti e = record { port = 1; message = record { mti = mti; source = board
 abbrev restarting : ℕ → Heard
 restarting mti = record { port = 1; message = record { mti = mti; source = board; destination = Absent; event = Absent } }
 
+abbrev word : Saying → Word
+word saying = record { source = board; saying = saying }
+
 -- An event valid and invalid, the whole space as 0 and as all ones, and a restart in full and simple: sharing takes each pair for the same.
-pub same-words : concerning 1 (carrying 0x04C4 7 ∷ carrying 0x04A4 0 ∷ restarting 0x0100 ∷ [])
-    ≡ concerning 1 (carrying 0x04C5 7 ∷ carrying 0x04A4 0xFFFFFFFFFFFFFFFF ∷ restarting 0x0110 ∷ [])
+abbrev words : List Word
+words = word (Announcement (single 7)) ∷ word (Announcement (record { start = 0; k = 64 })) ∷ word Restart ∷ []
+
+pub same-words : (concerning 1 (carrying 0x04C4 7 ∷ carrying 0x04A4 0 ∷ restarting 0x0100 ∷ []) ≡ words)
+    × (concerning 1 (carrying 0x04C5 7 ∷ carrying 0x04A4 0xFFFFFFFFFFFFFFFF ∷ restarting 0x0110 ∷ []) ≡ words)
 unfolding concerning saidBy meaningOf blockOf run bitsEqual
-same-words = refl
+same-words = (refl, refl)
 
 -- What comes in by another port is left out, and so is a report.
 pub others-left-out : concerning 2 (carrying 0x04C4 7 ∷ restarting 0x0100 ∷ []) ++ concerning 1 (carrying 0x05B4 7 ∷ []) ≡ []

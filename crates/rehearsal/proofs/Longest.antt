@@ -14,11 +14,11 @@ use Rattle.basics.proofs.Each.{each-length, each-up-to}
 use Rattle.text.specs.Text.{decimal, hexOf, badFile}
 use Rattle.text.proofs.Lengths.{decimal-length, hex-length}
 use Rattle.node_rules.specs.declared.Call.{Call}
-use Rattle.node_rules.specs.Boards.{Board, unadvertised, advertised}
+use Rattle.node_rules.specs.Boards.{Binary, Board, unadvertised, advertised}
 use Rattle.node_rules.specs.Sending.{allBytes}
 use Rattle.node_rules.specs.Calls.{Outcome, outcome}
 use Rattle.node_rules.proofs.Exactly.{refused-keeps}
-use Rattle.node_rules.proofs.Limits.{Binary, call-up-to, call-size, accepted-few, call-binary, call-marks}
+use Rattle.node_rules.proofs.Limits.{call-up-to, call-size, accepted-few, call-binary, call-marks}
 use Rattle.rehearsal.specs.Files.{slotCount, boardIn, callsAt, sizeAt, callAt, messageAt, roomAt, outcomeAt, goodFile, mostCalls}
 use Rattle.rehearsal.specs.Lines.{orDash, digitsOf, lineOf, lineFor, linesFrom, callLines, textOf, longestLine, longest}
 use Rattle.rehearsal.proofs.Good.{good-file}
