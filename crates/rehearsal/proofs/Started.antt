@@ -11,7 +11,8 @@ use Rattle.range.specs.declared.Block.{Block}
 use Rattle.range.specs.Range.{blockOf}
 use Rattle.numbers.specs.Numbers.{numberAt}
 use Rattle.text.specs.declared.Place.{Place}
-use Rattle.text.specs.Text.{filledAt, endAt, filled, endOf, badFile}
+use Rattle.text.specs.Text.{filledAt, endAt, badFile}
+use Rattle.text.proofs.Parts.{Puts, put-from}
 use Rattle.node_rules.specs.Boards.{Board, notInitialized, unadvertised}
 use Rattle.basics.specs.Lists.{each}
 use Rattle.basics.proofs.Each.{each-length}
@@ -85,25 +86,13 @@ started-in s {roles = roles} {events = events} {statuses = statuses} h i a l t =
 
 -- ---- the text of a file
 
--- A piece is put in from the first byte on.
-abbrev Puts : ℕ → List ℕ → List ℕ → Place → List ℕ → Type 0
-Puts skip piece text end text′ =
-    let first : Place = record { skip = skip; at = 0 } in (end ≡ endOf first piece text) × (text′ ≡ filled first piece text)
-
 abbrev Rehearsed : List ℕ → ℕ → List ℕ → Place → List ℕ → Type 0
 Rehearsed s skip text end text′ = (end .at ≡ endAt 0 (drop skip (textOf s)) text) × (text′ ≡ filledAt 0 (drop skip (textOf s)) text)
 
 module _ (s : List ℕ) (skip : ℕ) (text : List ℕ) {end : Place} {text′ : List ℕ} where
-  text-put : {piece : List ℕ} → piece ≡ textOf s → Puts skip piece text end text′ → Rehearsed s skip text end text′
-  unfolding filled endOf
-  text-put e p = (
-    ap (λ (n : Place). n .at) (p .0) ∙ ap (λ (l : List ℕ). endAt 0 (drop skip l) text) e,
-    p .1 ∙ ap (λ (l : List ℕ). filledAt 0 (drop skip l) text) e,
-  )
-
   pub text-bad : {t : Bool} → t ≡ goodFile s → not t ≡ true → Puts skip badFile text end text′ → Rehearsed s skip text end text′
   unfolding textOf
-  text-bad {t} e h p = text-put (rw (sym e ∙ not-true t h)) p
+  text-bad {t} e h p = put-from skip text (rw (sym e ∙ not-true t h)) p
 
   pub text-good : {t : Bool} {id : ℕ} {automatic : Block} {roles events statuses : List ℕ} → t ≡ goodFile s → not t ≡ false
       → id ≡ numberAt s 0 8 → automatic ≡ blockOf (numberAt s 8 8) → Loads s roles events statuses
@@ -112,4 +101,4 @@ module _ (s : List ℕ) (skip : ℕ) (text : List ℕ) {end : Place} {text′ : 
   unfolding textOf
   text-good {t} e h i a l p =
       let board = started-in s (passed-file s e h .count) i a l in
-      text-put (rw (sym e ∙ not-false t h) (ap (λ (b : Board). callLines b s) board)) p
+      put-from skip text (rw (sym e ∙ not-false t h) (ap (λ (b : Board). callLines b s) board)) p

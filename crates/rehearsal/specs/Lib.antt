@@ -1,4 +1,3 @@
 pub mod Files
 pub mod Lines
 pub mod Calls
-pub mod Parts

@@ -57,3 +57,7 @@ longestLine = 2139
 
 abbrev pub longest : ℕ
 longest = mostCalls * longestLine
+
+-- No text has more parts.
+abbrev pub mostParts : ℕ
+mostParts = 33

@@ -8,8 +8,8 @@ pub use lines::put_line;
 ghost use mathlib.Core.Path.{_≡_};
 ghost use lib.ListN.{length, drop};
 ghost use Rattle.text.specs.Text.{filledAt, endAt, laidOver};
+ghost use Rattle.text.specs.Parts.{partFrom};
 ghost use Rattle.rehearsal.specs.Lines.{textOf};
-ghost use Rattle.rehearsal.specs.Parts.{partFrom};
 use node_rules::Node;
 use text::Place;
 

@@ -1,4 +1,5 @@
-mod Good
+pub mod Good
+pub mod Walk
 mod Running
 mod Texts
 pub mod Longest

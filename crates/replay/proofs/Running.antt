@@ -1,26 +1,24 @@
 -- The entries that are done, and the lines that are still to be put in.
 use Prim.Native.Nat.{ℕ, suc, _+_, _-_, _≤_, _<_}
-use mathlib.Core.Path.{_≡_, refl, sym, ap, ap₂, _∙_}
+use mathlib.Core.Path.{_≡_, refl, sym, ap, _∙_}
 use mathlib.Core.List.{List, [], _++_}
 use native.Mathlib.Nat.{sub-zero}
 use native.Mathlib.Numerals.{add-one}
 use native.Mathlib.Omega.{arith}
 use lib.ListN.{length, take, drop}
-use Rattle.range.specs.Range.{house}
 use Rattle.text.specs.declared.Place.{Place}
 use Rattle.text.specs.Text.{filled, endOf}
 use Rattle.text.proofs.Laws.{Remains, remains-next, remains-none}
-use Rattle.gateway_rules.specs.State.{Gate, startOf}
-use Rattle.gateway.specs.State.{Lists, lineAt, gateIn, gateOf, headWith}
-use Rattle.gateway_rules.specs.Step.{Outcome, start, step}
+use Rattle.gateway_rules.specs.State.{Gate}
+use Rattle.gateway.specs.State.{Lists, lineAt, gateIn, headWith}
+use Rattle.gateway_rules.specs.Step.{Outcome, step}
 use Rattle.gateway.specs.declared.state.Head.{Head}
-use Rattle.gateway.specs.declared.Answer.{Answer}
 use Rattle.gateway.specs.declared.LentAnswer.{LentAnswer}
-use Rattle.gateway.specs.Answers.{Seen, seenIn, seenLent, seenOf}
+use Rattle.gateway.specs.Answers.{Seen, seenLent, seenOf}
 use Rattle.basics.proofs.Each.{each-length}
-use Rattle.replay.specs.Files.{entryCount, entryAt, portIn, lengthIn, bodyAt}
-use Rattle.replay.specs.Lines.{ports, lineOf, lineFor, stepAt, linesFrom}
-use Rattle.replay.proofs.Good.{Good, body-first, body-next, body-part, body-within}
+use Rattle.replay.specs.Files.{entryCount, entryAt, portIn, lengthIn}
+use Rattle.replay.specs.Lines.{lineOf, lineFor, stepAt, linesFrom}
+use Rattle.replay.proofs.Walk.{AtEntry, entry-first, entry-body, entry-next}
 
 -- ---- the lines of the entries from an entry on
 
@@ -40,32 +38,21 @@ line-for i o head a t e =
     let count = sym (each-length (a .count) (lineAt t)) ∙ ap (λ (x : Seen). length (x .gate .lines)) e in
     λ z. lineOf i (e z .refusal) (e z .sent) (count z)
 
--- A start with 4 ports is not refused.
-pub started : (a : Answer) → seenIn a ≡ seenOf (start ports house) → gateOf (a .gateway) ≡ startOf ports house
-unfolding start
-started a e = ap (λ (x : Seen). x .gate) e
-
 -- ---- the entries done
 
 -- Before entry i, whose body stands at a place of the file; the box began as g₀ and is g.
 pub record Running (g₀ : Gate) (file : List ℕ) (first : Place) (text₀ : List ℕ) (i at : ℕ) (g : Gate) (next : Place) (text : List ℕ) : Type 0 where
-  pub inside : i ≤ entryCount file
-  pub body : at ≡ bodyAt file i
+  pub entry : AtEntry file i at
   pub rest : Remains first (linesFrom (entryCount file) 0 g₀ file) text₀ next (linesFrom (entryCount file - i) i g file) text
 
 pub running-start : (g₀ : Gate) (file : List ℕ) (first : Place) (text : List ℕ) {count : ℕ}
     → count ≡ entryCount file → first .at ≤ length text → Running g₀ file first text 0 (entryAt count) g₀ first text
 running-start g₀ file first text f h = record {
-  inside = omega arith;
-  body = ap entryAt f ∙ sym (body-first file);
+  entry = entry-first file f;
   rest = rw (sub-zero (entryCount file)) (record { inside = h; place = refl; bytes = refl });
 }
 
 module _ {g₀ : Gate} {file : List ℕ} {first : Place} {text₀ : List ℕ} {i at : ℕ} {g : Gate} {next : Place} {text : List ℕ} (r : Running g₀ file first text₀ i at g next text) where
-  -- The entry's body is within the file.
-  pub running-within : {size : ℕ} → Good file → i < entryCount file → size ≡ lengthIn file i → at + size ≤ length file
-  running-within good h z = omega (arith, body-within good i h, r .body, z)
-
   -- The entry's line is put in, and the next body stands after its own.
   pub running-next : (head : Head) (a : LentAnswer) (t : Lists) {next′ : Place} {text′ : List ℕ} {size : ℕ} → i < entryCount file → size ≡ lengthIn file i
       → seenLent head a t ≡ seenOf (step g (portIn file i) (take (at + size - at) (drop at file)))
@@ -74,15 +61,14 @@ module _ {g₀ : Gate} {file : List ℕ} {first : Place} {text₀ : List ℕ} {i
       → Running g₀ file first text₀ (i + 1) (at + size) (gateIn (headWith head (a .marks) (a .count)) t) next′ text′
   running-next head a t h z e e₁ f₁ =
       let left : entryCount file - i ≡ suc (entryCount file - (i + 1)) = omega (arith, h) in
-      let taken : seenLent head a t ≡ seenOf (stepAt g file i) = e ∙ ap (λ (l : List ℕ). seenOf (step g (portIn file i) l)) (body-part file i (r .body) z) in
+      let taken : seenLent head a t ≡ seenOf (stepAt g file i) = e ∙ ap (λ (l : List ℕ). seenOf (step g (portIn file i) l)) (entry-body (r .entry) z) in
       let line = line-for i (stepAt g file i) head a t taken in
       let lines : linesFrom (entryCount file - i) i g file ≡ lineOf i (a .refusal) (a .sent) (a .count) ++ linesFrom (entryCount file - (i + 1)) (i + 1) (gateIn (headWith head (a .marks) (a .count)) t) file
       = ap (λ (n : ℕ). linesFrom n i g file) left
       ∙ lines-next i g file (entryCount file - (i + 1))
       ∙ λ z. sym line z ++ linesFrom (entryCount file - (i + 1)) (sym (add-one i) z) (sym taken z .gate) file in
       record {
-        inside = omega (arith, h);
-        body = ap₂ _+_ (r .body) z ∙ sym (body-next file i);
+        entry = entry-next (r .entry) z h;
         rest = remains-next (lineOf i (a .refusal) (a .sent) (a .count)) (rw lines at (r .rest)) e₁ f₁;
       }
 

@@ -1,20 +1,19 @@
 -- What a trial file prints: a line for each entry, or "bad file" (document 01, "Trial program").
 use Prim.Native.Nat.{ℕ, zero, suc, _*_}
 use mathlib.Core.Bool.{cond}
-use mathlib.Core.List.{List, [], _∷_, _++_}
+use mathlib.Core.List.{List, [], _++_}
 use lib.Dec.{eqb}
 use lib.ListN.{length}
 use Rattle.numbers.specs.Bits.{bit}
 use Rattle.basics.specs.Sets.{setOf}
 use Rattle.range.specs.Range.{house}
-use Rattle.text.specs.Text.{decimal, space, newLine, badFile}
+use Rattle.text.specs.Text.{decimal, ascii, space, newLine, badFile}
 use Rattle.gateway_rules.specs.State.{Gate, startOf}
 use Rattle.gateway_rules.specs.Step.{Outcome, step}
 use Rattle.replay.specs.Files.{entryCount, portIn, bodyIn, goodFile}
 
--- "refused " in bytes.
 abbrev pub refusedWord : List ℕ
-refusedWord = 114 ∷ 101 ∷ 102 ∷ 117 ∷ 115 ∷ 101 ∷ 100 ∷ 32 ∷ []
+refusedWord = ascii "refused "
 
 -- It starts 4 ports with the house block.
 abbrev pub ports : ℕ

@@ -1,10 +1,10 @@
-// Whether a trial file is good.
+// Whether a file is a trial file.
 ghost use mathlib.Core.Path.{_≡_};
 ghost use Prim.Native.Nat.{_≤_};
 ghost use lib.ListN.{length};
 ghost use Rattle.replay.specs.Files.{entryCount, entryAt, bodyAt, goodFile};
 
-pub(crate) fn good(file: &[u8]) -> bool
+pub fn good_file(file: &[u8]) -> bool
     ensures { λ yes. ⌜ yes ≡ goodFile (now (file .entry)) ⌝ }
 {
     if 65536 < file.len() {

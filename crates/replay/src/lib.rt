@@ -3,6 +3,7 @@ mod entries;
 mod files;
 mod lines;
 
+pub use files::good_file;
 ghost use mathlib.Core.Path.{_≡_};
 ghost use lib.ListN.{length};
 ghost use Rattle.text.specs.Text.{filledAt, endAt, laidOver};
@@ -15,7 +16,7 @@ pub fn replay(file: &[u8], text: &mut [u8]) -> usize
     ensures { λ _. ⌜ now (text .exit) ≡ filledAt 0 (textOf (now (file .entry))) (now (text .entry)) ⌝ }
 {
     let first = Place { skip: 0, at: 0 };
-    if !files::good(file) {
+    if !good_file(file) {
         let end = text::put(b"bad file\n", first, text);
         return end.at;
     }

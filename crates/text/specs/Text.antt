@@ -1,5 +1,7 @@
 -- Text that is put into a lent buffer, and numbers in text (document 01, "Trial program": what a line shows).
 use Prim.Native.Nat.{ℕ, zero, suc, _+_, _-_, _/_, _%_, _^_}
+use Prim.Native.Char.{code}
+use Prim.Native.String.{String, [] as none, _∷_ as _then_}
 use mathlib.Core.Bool.{cond, _||_}
 use mathlib.Core.List.{List, [], _∷_, _++_}
 use lib.Dec.{eqb, leb, ltb}
@@ -52,12 +54,17 @@ hexOf (b ∷ bs) = hexDigit (b / 16) ∷ (hexDigit (b % 16) ∷ hexOf bs)
 
 -- ---- words that lines are made of
 
+-- Words in bytes, one for each character.
+abbrev pub ascii : String → List ℕ
+ascii none = []
+ascii (c then s) = code c ∷ ascii s
+
 abbrev pub space : List ℕ
 space = 32 ∷ []
 
 abbrev pub newLine : List ℕ
 newLine = 10 ∷ []
 
--- "bad file" with a new line (document 01, "Trial program").
+-- Document 01, "Trial program".
 abbrev pub badFile : List ℕ
-badFile = 98 ∷ 97 ∷ 100 ∷ 32 ∷ 102 ∷ 105 ∷ 108 ∷ 101 ∷ 10 ∷ []
+badFile = ascii "bad file\n"

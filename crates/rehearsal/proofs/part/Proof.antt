@@ -1,7 +1,7 @@
 -- The buffer takes a part of the text.
 use borrow.Author.Needs.{needs}
 use Rattle.rehearsal.specs.Lines.{textOf}
-use Rattle.rehearsal.proofs.Parts.{part-put}
+use Rattle.text.proofs.Parts.{part-put}
 use Rattle.rehearsal.proofs.part.Statement.{statement}
 use Rattle.rehearsal.proofs.part.Tie as tie
 

@@ -7,8 +7,8 @@ use borrow.Author.Needs.{needs}
 use Rattle.replay.proofs.replay.Statement.{statement}
 use Rattle.replay.proofs.replay.Tie as tie
 
-good-requires : tie.Need-good-requires
-good-requires c κs = search needs
+good-file-requires : tie.Need-good-file-requires
+good-file-requires c κs = search needs
 
 slice-aggregate-put : tie.Need-slice-aggregate-put
 slice-aggregate-put c = search needs
@@ -20,22 +20,22 @@ same-length : tie.Need-same-length
 same-length c = search needs
 
 returns : tie.Need-returns
-returns c = text-bad (c .before .before .before .before .before .before .before .before .before .args .file .now) (c .before .before .before .before .before .before .before .before .before .args .text .now) (c .before .before .before .before .before .before .good2 .ensures) (c .before .before .before .before .before .if1 .taken) (c .before .before .put .ensures)
+returns c = text-bad (c .before .before .before .before .before .before .before .before .before .args .file .now) (c .before .before .before .before .before .before .before .before .before .args .text .now) (c .before .before .before .before .before .before .good-file .ensures) (c .before .before .before .before .before .if1 .taken) (c .before .before .put .ensures)
 
 run-requires : tie.Need-run-requires
-run-requires c κs = (sym (c .before .before .good2 .ensures) ∙ not-false (c .before .before .good2 .result) (c .before .if1 .left), omega arith)
+run-requires c κs = (sym (c .before .before .good-file .ensures) ∙ not-false (c .before .before .good-file .result) (c .before .if1 .left), omega arith)
 
 same-length-2 : tie.Need-same-length-2
 same-length-2 c = search needs
 
 returns-2 : tie.Need-returns-2
-returns-2 c = text-good (c .before .before .before .before .before .before .before .before .args .file .now) (c .before .before .before .before .before .before .before .before .args .text .now) (c .before .before .before .before .before .good2 .ensures) (c .before .before .before .before .if1 .left) (c .before .before .run .ensures)
+returns-2 c = text-good (c .before .before .before .before .before .before .before .before .args .file .now) (c .before .before .before .before .before .before .before .before .args .text .now) (c .before .before .before .before .before .good-file .ensures) (c .before .before .before .before .if1 .left) (c .before .before .run .ensures)
 
 pub replay-spec : {M : Type 1} → statement M
 replay-spec =
     tie.close
     (tie.spec
-    good-requires
+    good-file-requires
     slice-aggregate-put
     put-requires
     same-length

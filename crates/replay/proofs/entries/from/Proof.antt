@@ -8,7 +8,8 @@ use Rattle.gateway.specs.State.{lists, listsOf, gateIn, gateOf, Whole}
 use Rattle.gateway.specs.Answers.{seenOf}
 use Rattle.gateway.proofs.Lending.{whole-step}
 use Rattle.replay.proofs.Good.{Good, good-file}
-use Rattle.replay.proofs.Running.{Running, running-start, running-within, running-next, running-end}
+use Rattle.replay.proofs.Walk.{entry-within}
+use Rattle.replay.proofs.Running.{Running, running-start, running-next, running-end}
 use Rattle.replay.proofs.entries.from.Statement.{statement}
 use Rattle.replay.proofs.entries.from.Tie as tie
 
@@ -57,7 +58,7 @@ read-at-requires-2 c κs = tt
 add-end : tie.Need-add-end Inv-loop μ-loop
 add-end c =
     let whole = good (c .before .before .before .before .before .before .before .before .before .before .before .before) in
-    omega (arith, whole .size, running-within (c .before .before .before .loop .inv .0) whole (omega (arith, c .before .before .before .before .read-at .ensures, c .before .before .loop-test .taken)) (c .read-at2 .ensures))
+    omega (arith, whole .size, entry-within (c .before .before .before .loop .inv .0 .entry) (c .read-at2 .ensures) whole (omega (arith, c .before .before .before .before .read-at .ensures, c .before .before .loop-test .taken)))
 
 slice-aggregate-receive-lent : tie.Need-slice-aggregate-receive-lent Inv-loop μ-loop
 slice-aggregate-receive-lent c = sym (c .before .before .before .before .loop .inv .1 .0)
@@ -81,7 +82,7 @@ part-receive-lent-end : tie.Need-part-receive-lent-end Inv-loop μ-loop
 part-receive-lent-end c =
     let turn = c .before .before .before .before .before .before in
     let whole = good (turn .before .before .before .before .before .before .before .before .before .before) in
-    running-within (turn .before .loop .inv .0) whole (omega (arith, turn .before .before .read-at .ensures, turn .loop-test .taken)) (c .before .before .before .before .read-at2 .ensures)
+    entry-within (turn .before .loop .inv .0 .entry) (c .before .before .before .before .read-at2 .ensures) whole (omega (arith, turn .before .before .read-at .ensures, turn .loop-test .taken))
 
 receive-lent-requires : tie.Need-receive-lent-requires Inv-loop μ-loop
 receive-lent-requires c κs = tt

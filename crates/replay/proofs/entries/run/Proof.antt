@@ -5,7 +5,7 @@ use Rattle.text.specs.Text.{filled, endOf}
 use Rattle.gateway_rules.specs.State.{Gate}
 use Rattle.replay.specs.Files.{entryCount}
 use Rattle.replay.specs.Lines.{linesFrom}
-use Rattle.replay.proofs.Running.{started}
+use Rattle.replay.proofs.Walk.{started}
 use Rattle.replay.proofs.entries.run.Statement.{statement}
 use Rattle.replay.proofs.entries.run.Tie as tie
 

@@ -4,8 +4,8 @@ use borrow.Author.Tests.{le-leb, lt-leb}
 use lib.ListN.{length}
 use Rattle.replay.specs.Files.{entryCount, entryAt, goodFile}
 use borrow.Author.Needs.{needs}
-use Rattle.replay.proofs.files.good.Statement.{statement}
-use Rattle.replay.proofs.files.good.Tie as tie
+use Rattle.replay.proofs.files.good_file.Statement.{statement}
+use Rattle.replay.proofs.files.good_file.Tie as tie
 
 returns : tie.Need-returns
 unfolding goodFile
@@ -49,8 +49,8 @@ returns-5 c =
     let s = c .before .before .before .before .before .before .before .args .file .now in
     rw (c .end .ensures, c .before .before .before .read-at .ensures, le-leb (length s) 65536 (c .before .before .before .before .before .if1 .left), le-leb 2 (length s) (c .before .before .before .before .if2 .left), le-leb (entryCount s) 1000 (omega (arith, c .before .before .before .read-at .ensures, c .before .before .if3 .left)), le-leb (entryAt (entryCount s)) (length s) (omega (arith, c .before .before .before .read-at .ensures, c .before .if4 .left)))
 
-pub good-spec : {M : Type 1} → statement M
-good-spec =
+pub good-file-spec : {M : Type 1} → statement M
+good-file-spec =
     tie.close
     (tie.spec
     returns

@@ -1,4 +1,4 @@
--- A text in parts: the last is the first that is not full.
+-- A long text in parts: the last is the first that is not full.
 use Prim.Native.Nat.{ℕ, zero, suc, _+_}
 use mathlib.Core.Bool.{cond}
 use mathlib.Core.List.{List, [], _++_}
@@ -17,7 +17,3 @@ unfoldable pub partsFrom : ℕ → ℕ → List ℕ → List ℕ
 partsFrom zero skip text = []
 partsFrom (suc n) skip text =
     partFrom skip text ++ cond (ltb (length (partFrom skip text)) partSize) [] (partsFrom n (skip + partSize) text)
-
--- No board file's text has more.
-abbrev pub mostParts : ℕ
-mostParts = 33
