@@ -13,5 +13,6 @@ pub mod Distinct
 pub mod Accepted
 pub mod Sharing
 pub mod Examples
+pub mod AskedExamples
 pub mod Reported
 pub mod Limits
