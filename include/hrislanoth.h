@@ -118,6 +118,24 @@ hrislanoth_lent_answer hrislanoth_receive_lent(hrislanoth_head head, uint64_t *n
                                                uint8_t *ports, size_t ports_length, uint8_t *sizes, size_t sizes_length, uint8_t port,
                                                const uint8_t *bytes, size_t length);
 
+/* Why a report is sent to a port or held back from it (document 02, W1). reason is the first that applies: 1 the port is the arrival port, 2 the event is
+ * automatic, 3 the port is open, 4 a line for the port holds the event, 5 nothing holds it. The report is sent exactly where it is 2, 3 or 4. Of 4, place is the
+ * place of that line, the first in table order, counted from 0, node the board that announced it and block what it announced; else these are 0, as is reason
+ * beside a refusal. */
+typedef struct {
+    uint8_t refusal;
+    uint8_t reason;
+    size_t place;
+    uint64_t node;
+    hrislanoth_block block;
+} hrislanoth_reason;
+
+/* Why the report that arrives at a port goes to the asked port or does not. Nothing changes. 7 where a list is not exactly 256 long or the box is out of
+ * bounds, 8 where it has no such arrival port or no such asked port, 1 to 5 where the message cannot be read, 15 where it is no event report. */
+hrislanoth_reason hrislanoth_why(hrislanoth_head head, const uint64_t *nodes, size_t nodes_length, const uint64_t *starts, size_t starts_length,
+                                 const uint8_t *ports, size_t ports_length, const uint8_t *sizes, size_t sizes_length, uint8_t port, uint8_t asked,
+                                 const uint8_t *bytes, size_t length);
+
 /* ---- the board (document 01, "Node") */
 
 /* state is 0 for not Initialized, 1 for Initialized; automatic is the block of automatically routed events. */

@@ -7,7 +7,7 @@ use mathlib.Core.List.{List, [], _∷_, _++_, append-nil}
 use borrow.Author.Tests.{eqb-false, not-true, leb-true}
 use lib.Dec.{eqb, leb}
 use Rattle.basics.proofs.Bools.{both}
-use Rattle.basics.specs.Refusals.{Test, numbered, numberedUpTo, firstOf, answered, None, Given}
+use Rattle.basics.specs.Refusals.{Test, numbered, numberedUpTo, firstOf, answered, told, refused, toldBy, None, Given}
 use Rattle.basics.specs.Refusals.None.{none, passed}
 
 -- Where one list gives a refusal, what follows it does not matter.
@@ -96,6 +96,14 @@ answered-yes accept reject x e = rw e
 pub answered-no : {A R : Type 0} (accept : A → R) (reject : ℕ → R) (n : ℕ) (x : A) → (n ≡ 0 → ⊥) → answered accept reject n x ≡ reject n
 answered-no accept reject zero x h = absurd (h refl)
 answered-no accept reject (suc n) x h = refl
+
+-- The number that tests in an order tell is the first test's that applies.
+pub told-number : {A : Type 0} (ts : List Test) (x : A) → toldBy ts x .refusal ≡ firstOf ts
+told-number ts x = go (firstOf ts)
+  where
+    go : (n : ℕ) → answered (λ y. told (y ∷ [])) (λ k. refused k []) n x .refusal ≡ n
+    go zero = refl
+    go (suc n) = refl
 
 -- Given exactly when, for any answer whose cases can be told apart.
 module _ {A R : Type 0} (accept : A → R) (reject : ℕ → R) (apart : (x : A) (n : ℕ) → accept x ≡ reject n → ⊥) where

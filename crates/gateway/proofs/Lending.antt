@@ -12,22 +12,19 @@ use Rattle.gateway.specs.declared.state.Head.{Head}
 use Rattle.gateway.specs.State.{Lists, gateIn, Whole, headWith}
 use Rattle.gateway_rules.specs.Step.{Outcome, refusing, step}
 use Rattle.gateway.specs.declared.LentAnswer.{LentAnswer}
-use Rattle.gateway.specs.Answers.{seenLent, seenOf, badLengths, lentStep, lentRefusalKeeps}
+use Rattle.gateway.specs.Answers.{seenLent, seenOf, badLists, lentStep, lentRefusalKeeps}
 
-abbrev pub bad : Lists → Bool
-bad t = badLengths (length (t .nodes)) (length (t .starts)) (length (t .ports)) (length (t .sizes))
-
-not-bad : (t : Lists) → Whole t → bad t ≡ false
+not-bad : (t : Lists) → Whole t → badLists t ≡ false
 not-bad t w = rw (w .0, w .1, w .2, w .3)
 
 module _ (head : Head) (t : Lists) (q : ℕ) (bytes : List ℕ) where
   abbrev by-lengths : Bool → Outcome
   by-lengths y = cond y (refusing (gateIn head t) 7) (step (gateIn head t) q bytes)
 
-  pub bad-step : bad t ≡ true → lentStep head t q bytes ≡ refusing (gateIn head t) 7
+  pub bad-step : badLists t ≡ true → lentStep head t q bytes ≡ refusing (gateIn head t) 7
   bad-step e = ap by-lengths e
 
-  pub good-step : bad t ≡ false → lentStep head t q bytes ≡ step (gateIn head t) q bytes
+  pub good-step : badLists t ≡ false → lentStep head t q bytes ≡ step (gateIn head t) q bytes
   good-step e = ap by-lengths e
 
   pub whole-step : Whole t → lentStep head t q bytes ≡ step (gateIn head t) q bytes
@@ -43,7 +40,7 @@ module _ (head : Head) (t : Lists) (q : ℕ) (bytes : List ℕ) where
       (told ∙ ap seenOf (sym e), λ _. (marks, count, refl))
 
 -- Lists of 256 places each.
-pub all-whole : (t : Lists) → bad t ≡ false → Whole t
+pub all-whole : (t : Lists) → badLists t ≡ false → Whole t
 all-whole t e =
     let h = neither (not (eqb (length (t .nodes)) 256)) (not (eqb (length (t .starts)) 256) || (not (eqb (length (t .ports)) 256) || not (eqb (length (t .sizes)) 256))) e in
     let k = neither (not (eqb (length (t .starts)) 256)) (not (eqb (length (t .ports)) 256) || not (eqb (length (t .sizes)) 256)) (h .1) in

@@ -1,9 +1,11 @@
+mod Answering
 mod Bits
 mod Held
 mod InBounds
 mod Kept
 pub mod Lending
 mod Marks
+mod Naming
 pub mod PastTheCount
 mod Places
 mod Sends

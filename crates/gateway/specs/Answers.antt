@@ -47,10 +47,12 @@ seenLent h a t = record { refusal = a .refusal; sent = a .sent; gate = gateIn (h
 abbrev pub badLengths : ℕ → ℕ → ℕ → ℕ → Bool
 badLengths nodes starts ports sizes = not (eqb nodes full) || (not (eqb starts full) || (not (eqb ports full) || not (eqb sizes full)))
 
+abbrev pub badLists : Lists → Bool
+badLists t = badLengths (length (t .nodes)) (length (t .starts)) (length (t .ports)) (length (t .sizes))
+
 -- A list that is not of 256 places is 7, before all else.
 abbrev pub lentStep : Head → Lists → ℕ → List ℕ → Outcome
-lentStep h t q bytes =
-    cond (badLengths (length (t .nodes)) (length (t .starts)) (length (t .ports)) (length (t .sizes))) (refusing (gateIn h t) 7) (step (gateIn h t) q bytes)
+lentStep h t q bytes = cond (badLists t) (refusing (gateIn h t) 7) (step (gateIn h t) q bytes)
 
 abbrev pub lentRefusalKeeps : Head → Lists → LentAnswer → Lists → Type 0
 lentRefusalKeeps h before a after = (a .refusal ≡ 0 → ⊥) → (a .marks ≡ h .marks) × (a .count ≡ h .count) × (after ≡ before)

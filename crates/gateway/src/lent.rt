@@ -52,7 +52,7 @@ pub fn receive_lent(
     }
 }
 
-fn bad_lengths(nodes: usize, starts: usize, ports: usize, sizes: usize) -> bool
+pub(crate) fn bad_lengths(nodes: usize, starts: usize, ports: usize, sizes: usize) -> bool
     ensures { λ yes. ⌜ yes ≡ badLengths nodes starts ports sizes ⌝ }
 {
     if nodes != 256 {

@@ -1,4 +1,5 @@
 // The box: a state goes in with a port and bytes, and comes back with where they go.
+mod asking;
 mod bounds;
 mod lent;
 mod lines;
@@ -12,6 +13,8 @@ ghost use Rattle.gateway_rules.specs.State.{startOf};
 ghost use Rattle.gateway_rules.specs.Step.{start as startedBy, step as stepOf};
 ghost use Rattle.gateway.specs.State.{gateOf};
 ghost use Rattle.gateway.specs.Answers.{seenIn, seenOf, refusalKeeps};
+pub use asking::WhyAnswer;
+pub use asking::why;
 pub use lent::receive_lent;
 pub use state::Gateway;
 pub use state::Head;

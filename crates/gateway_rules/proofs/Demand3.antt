@@ -50,7 +50,7 @@ module _ (g : Gate) (empty : g .lines ≡ []) (closed : (p : ℕ) → g .marked 
       lines : any (lineHolds p e) (leftBy g h .lines) ≡ false
       lines = ⊎-elim (λ t. absurd (held t)) (λ t. t) (true-or-false (any (lineHolds p e) (leftBy g h .lines)))
 
-  held-back : wants (leftBy g h) p e ≡ false → HeldBack g h p e
+  pub held-back : wants (leftBy g h) p e ≡ false → HeldBack g h p e
   unfolding wants
   held-back t =
       let a = neither (inBlock (leftBy g h .automatic) e) _ t in

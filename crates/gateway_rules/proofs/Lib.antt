@@ -5,7 +5,9 @@ pub mod Holding
 pub mod Bounds
 pub mod Hearing
 pub mod Demand3
+pub mod Reasons
 pub mod Sending
+pub mod Asking
 pub mod OwnLines
 pub mod Distinct
 pub mod Accepted

@@ -66,6 +66,13 @@ any-has test (x ∷ xs) h = go (test x) refl (any-has test xs)
 pub has-append : (lines : List Line) (x l : Line) → has (lines ++ (x ∷ [])) l ≡ (has lines l || sameLine l x)
 has-append lines x l = any-append (sameLine l) lines (x ∷ []) ∙ ap (λ (t : Bool). has lines l || t) (or-false (sameLine l x))
 
+-- A line stands where it is put.
+pub has-within : (before later : List Line) (l : Line) → has (before ++ (l ∷ later)) l ≡ true
+has-within before later l =
+    any-append (sameLine l) before (l ∷ later)
+    ∙ ap (λ (t : Bool). has before l || (t || has later l)) (same-line l l .1 refl)
+    ∙ or-true (has before l)
+
 -- What is there once some lines are left out.
 pub has-without : (test : Line → Bool) (lines : List Line) (l : Line) → has (without test lines) l ≡ (not (test l) && has lines l)
 has-without test [] l = sym (and-false (not (test l)))

@@ -50,6 +50,9 @@ said-fits m = by-kind (kindOf (m .mti)) (m .event) (m .destination)
 pub announcement-block : (m : Message) (b : Block) → saidBy m ≡ Announcement b → isBlock b ≡ true
 announcement-block m b e = sym (ap (fits (kindOf (m .mti))) e) ∙ said-fits m
 
+pub report-kind : (m : Message) (e : ℕ) → saidBy m ≡ Report e → isReport (kindOf (m .mti)) ≡ true
+report-kind m e s = sym (ap (fits (kindOf (m .mti))) s) ∙ said-fits m
+
 -- A message that is no report is wanted everywhere.
 pub others-wanted : (g : Gate) (p : ℕ) (m : Message) → isReport (kindOf (m .mti)) ≡ false → wantedAt g p (saidBy m) ≡ true
 others-wanted g p m e = go (saidBy m) (said-fits m)

@@ -9,10 +9,10 @@ use Rattle.gateway_rules.specs.State.{Gate, outOfBounds}
 use Rattle.gateway_rules.specs.Step.{hear, step}
 use Rattle.gateway_rules.proofs.Said.{announcement-block}
 use Rattle.gateway.specs.State.{Lists, gateIn, held}
-use Rattle.gateway.specs.Answers.{Seen, seenOf, lentStep, saidIn, wantedBy}
+use Rattle.gateway.specs.Answers.{Seen, seenOf, badLists, lentStep, saidIn, wantedBy}
 use Rattle.gateway.proofs.InBounds.{by-head}
 use Rattle.gateway.proofs.Sends.{sent-wanted, heard-taken}
-use Rattle.gateway.proofs.Lending.{bad, bad-step, good-step, refusal-given, all-whole}
+use Rattle.gateway.proofs.Lending.{bad-step, good-step, refusal-given, all-whole}
 use Rattle.gateway.proofs.Stepping.{step-at-7, step-at-8, step-takes, step-refuses, ports-reached}
 use Rattle.gateway.proofs.lent.receive_lent.Statement.{statement}
 use Rattle.gateway.proofs.lent.receive_lent.Tie as tie
@@ -29,7 +29,7 @@ table p = held (p .args .nodes) (p .args .starts) (p .args .ports) (p .args .siz
 abbrev gate : tie.Start → Gate
 gate p = gateIn (p .args .head) (table p)
 
-good : (c : tie.Else1) → bad (table (start c)) ≡ false
+good : (c : tie.Else1) → badLists (table (start c)) ≡ false
 good c = sym (c .before .bad-lengths .ensures) ∙ c .if1 .left
 
 stepped : (c : tie.Else1) → lentStep (start c .args .head) (table (start c)) (start c .args .port) (now (start c .args .bytes)) ≡ step (gate (start c)) (start c .args .port) (now (start c .args .bytes))

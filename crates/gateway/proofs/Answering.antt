@@ -1,0 +1,79 @@
+-- What the box is to answer when it is asked why, once the code's tests are known.
+use Prim.Native.Nat.{ℕ, _/_, _%_, _^_, _<_, _≤_}
+use mathlib.Core.Path.{_≡_, refl, sym, ap, _∙_}
+use mathlib.Core.Bool.{Bool, true, false, cond, _||_, or-true}
+use mathlib.Core.List.{List, [], _∷_}
+use borrow.Author.Tests.{eq-eqb, ne-eqb, le-leb, lt-leb}
+use lib.Dec.{leb}
+use denote.Enum.Declared.{tagOf, declared}
+use types.Run.{OneOf, miss}
+use Rattle.range.specs.Range.{inBlock}
+use Rattle.basics.specs.Refusals.{Told, refused}
+use Rattle.message.proofs.Saying.{enum as sayings}
+use Rattle.message.specs.declared.Saying.{Saying}
+use Rattle.message.specs.declared.Saying.the-variants.{Report, Announcement, Restart, Inquiry, InquiryForAll, Learn, Nothing}
+use Rattle.gateway_rules.specs.declared.Reason.{Reason}
+use Rattle.gateway_rules.specs.declared.Reason.the-variants.{ArrivalPort, AutomaticEvent, OpenPort}
+use Rattle.gateway_rules.specs.Reasons.{Numbered, reasonFor, byLine, firstHolding, eventOf, whyTold}
+use Rattle.gateway.specs.declared.state.Head.{Head}
+use Rattle.gateway.specs.State.{Lists, linesIn, gateIn}
+use Rattle.gateway.specs.Answers.{badLists}
+use Rattle.gateway.specs.Asking.{lentWhy}
+
+-- ---- the reason
+
+module _ (head : Head) (t : Lists) (q e p : ℕ) where
+  abbrev reason : Reason
+  reason = reasonFor (gateIn head t) q e p
+
+  pub by-arrival : p ≡ q → ArrivalPort ≡ reason
+  unfolding reasonFor
+  by-arrival a = rw (eq-eqb p q a)
+
+  pub by-automatic : (p ≡ q → ⊥) → inBlock (head .automatic) e ≡ true → AutomaticEvent ≡ reason
+  unfolding reasonFor gateIn
+  by-automatic other a = rw (ne-eqb p q other, a)
+
+  pub by-mark : (p ≡ q → ⊥) → inBlock (head .automatic) e ≡ false → head .marks / 2 ^ p % 2 ≡ 1 → OpenPort ≡ reason
+  unfolding reasonFor gateIn
+  by-mark other a m = rw (ne-eqb p q other, a, eq-eqb (head .marks / 2 ^ p % 2) 1 m)
+
+  pub by-lines : (p ≡ q → ⊥) → inBlock (head .automatic) e ≡ false → (head .marks / 2 ^ p % 2 ≡ 1 → ⊥) → byLine (firstHolding p e 0 (linesIn (head .count) t)) ≡ reason
+  unfolding reasonFor gateIn
+  by-lines other a m = rw (ne-eqb p q other, a, ne-eqb (head .marks / 2 ^ p % 2) 1 m)
+
+-- ---- the answer
+
+-- What is no report has no event.
+pub no-event : (s : Saying) → OneOf (1 ∷ 2 ∷ 3 ∷ 4 ∷ 5 ∷ 6 ∷ []) (tagOf (declared sayings) s) → eventOf s ≡ []
+no-event (Report e) k = absurd (miss (1 ∷ 2 ∷ 3 ∷ 4 ∷ 5 ∷ 6 ∷ []) 0 tt k)
+no-event (Announcement b) k = refl
+no-event Restart k = refl
+no-event (Inquiry role e) k = refl
+no-event (InquiryForAll destination) k = refl
+no-event (Learn e) k = refl
+no-event Nothing k = refl
+
+module _ (head : Head) (t : Lists) (q p : ℕ) (bytes : List ℕ) where
+  abbrev by-lists : Bool → Told (List Numbered)
+  by-lists b = cond b (refused 7 []) (whyTold (gateIn head t) q p bytes)
+
+  pub lists-refused : badLists t ≡ true → refused 7 [] ≡ lentWhy head t q p bytes
+  lists-refused w = sym (ap by-lists w)
+
+  pub told-whole : badLists t ≡ false → {answer : Told (List Numbered)} → whyTold (gateIn head t) q p bytes ≡ answer → answer ≡ lentWhy head t q p bytes
+  told-whole w e = sym e ∙ sym (ap by-lists w)
+
+-- Either port is not there, or both are.
+module _ (head : Head) (t : Lists) (q p : ℕ) where
+  pub arrival-past : head .ports ≤ q → (leb (gateIn head t .ports) q || leb (gateIn head t .ports) p) ≡ true
+  unfolding gateIn
+  arrival-past l = rw (le-leb (head .ports) q l)
+
+  pub asked-past : head .ports ≤ p → (leb (gateIn head t .ports) q || leb (gateIn head t .ports) p) ≡ true
+  unfolding gateIn
+  asked-past l = rw (le-leb (head .ports) p l) (or-true (leb (head .ports) q))
+
+  pub both-there : q < head .ports → p < head .ports → (leb (gateIn head t .ports) q || leb (gateIn head t .ports) p) ≡ false
+  unfolding gateIn
+  both-there k l = rw (lt-leb (head .ports) q k, lt-leb (head .ports) p l)
