@@ -31,7 +31,7 @@ use Rattle.gateway.specs.declared.asking.WhyAnswer.{WhyAnswer}
 use Rattle.gateway.specs.declared.asking.WhyAnswer.the-variants.{Because, Refused}
 use Rattle.gateway.specs.Asking.{answerTold, lentWhy}
 use Rattle.replay.specs.Lines.{ports}
-use Rattle.explanation.specs.Words.{legLines, refusedLine, eventIn, entryLines, isReport}
+use Rattle.explanation.specs.Words.{legLines, refusedLine, eventIn, entryLines, acceptedReport}
 
 -- ---- where the event of a report stands
 
@@ -56,11 +56,11 @@ event-at s e says = go (mtiIn s) says (sym (kind-exactly EventReport refl (mtiIn
 pub record Refuses (g : Gate) (q : ℕ) (bytes : List ℕ) (i n : ℕ) : Type 0 where
   pub other : n ≡ 15 → [] ≡ entryLines i g q bytes
   pub line : (n ≡ 15 → ⊥) → refusedLine i n ≡ entryLines i g q bytes
-  pub no-report : isReport g q bytes ≡ false
+  pub no-report : acceptedReport g q bytes ≡ false
 
 module _ (g : Gate) (q : ℕ) (bytes : List ℕ) where
-  report-parts : isReport g q bytes ≡ true → (step g q bytes .refusal ≡ 0) × (firstOr true (λ _. false) (reportedIn bytes) ≡ false)
-  unfolding isReport
+  report-parts : acceptedReport g q bytes ≡ true → (step g q bytes .refusal ≡ 0) × (firstOr true (λ _. false) (reportedIn bytes) ≡ false)
+  unfolding acceptedReport
   report-parts = go (step g q bytes .refusal) (reportedIn bytes)
     where
       go : (n : ℕ) (es : List ℕ) → answered (firstOr false (λ _. true)) (λ _. false) n es ≡ true → (n ≡ 0) × (firstOr true (λ _. false) es ≡ false)
@@ -68,8 +68,8 @@ module _ (g : Gate) (q : ℕ) (bytes : List ℕ) where
       go zero (e ∷ es) t = (refl, refl)
       go (suc n) es t = absurd (false≢true t)
 
-  pub report-lines : (i : ℕ) → isReport g q bytes ≡ true → legLines ports 0 i g q (eventIn bytes) ≡ entryLines i g q bytes
-  unfolding isReport entryLines
+  pub report-lines : (i : ℕ) → acceptedReport g q bytes ≡ true → legLines ports 0 i g q (eventIn bytes) ≡ entryLines i g q bytes
+  unfolding acceptedReport entryLines
   report-lines i = go (step g q bytes .refusal) (reportedIn bytes)
     where
       go : (n : ℕ) (es : List ℕ) → answered (firstOr false (λ _. true)) (λ _. false) n es ≡ true
@@ -81,18 +81,18 @@ module _ (g : Gate) (q : ℕ) (bytes : List ℕ) where
   -- ---- asked for a leg that is there
 
   module _ (p : ℕ) (there : p < g .ports) where
-    accepted-why : isReport g q bytes ≡ true → whyTold g q p bytes .refusal ≡ 0
+    accepted-why : acceptedReport g q bytes ≡ true → whyTold g q p bytes .refusal ≡ 0
     accepted-why t = let (a, r) = report-parts t in after-the-step g q p bytes there a ∙ ap (λ (b : Bool). cond b 15 0) r
 
-    event-said : (t : isReport g q bytes ≡ true) → eventIn bytes ≡ why-answered g q p bytes (accepted-why t) .event
+    event-said : (t : acceptedReport g q bytes ≡ true) → eventIn bytes ≡ why-answered g q p bytes (accepted-why t) .event
     event-said t = ap (λ (s : Saying). firstOr 0 (λ e. e) (eventOf s)) (why-answered g q p bytes (accepted-why t) .reports .says)
 
     -- A report's event stands at byte 8.
-    event-there : {e : ℕ} → e ≡ numberAt bytes 8 8 → isReport g q bytes ≡ true → e ≡ eventIn bytes
+    event-there : {e : ℕ} → e ≡ numberAt bytes 8 8 → acceptedReport g q bytes ≡ true → e ≡ eventIn bytes
     event-there f t = f ∙ event-at bytes _ (why-answered g q p bytes (accepted-why t) .reports .says) ∙ sym (event-said t)
 
     -- A report is told its reason.
-    leg-reason : (a : WhyAnswer) → answerTold a ≡ whyTold g q p bytes → isReport g q bytes ≡ true → a ≡ Because (reasonFor g q (eventIn bytes) p)
+    leg-reason : (a : WhyAnswer) → answerTold a ≡ whyTold g q p bytes → acceptedReport g q bytes ≡ true → a ≡ Because (reasonFor g q (eventIn bytes) p)
     leg-reason a f t = go a (f ∙ why-answered g q p bytes (accepted-why t) .told ∙ ap (λ (e : ℕ). told (reasonTold (reasonFor g q e p) ∷ [])) (sym (event-said t)))
       where
         first : Told (List Numbered) → Numbered
@@ -103,14 +103,14 @@ module _ (g : Gate) (q : ℕ) (bytes : List ℕ) where
         go (Refused n) f = let z : _≡_ {A = ℕ} 0 1 = ap (λ (x : Told (List Numbered)). firstOr 0 (λ _. 1) (x .value)) f in absurd (omega arith)
 
     -- What is told a reason is a report.
-    reason-report : (r : Reason) → answerTold (Because r) ≡ whyTold g q p bytes → isReport g q bytes ≡ true
-    unfolding isReport
+    reason-report : (r : Reason) → answerTold (Because r) ≡ whyTold g q p bytes → acceptedReport g q bytes ≡ true
+    unfolding acceptedReport
     reason-report r f =
         let w = why-answered g q p bytes (sym (ap (λ (x : Told (List Numbered)). x .refusal) f)) in
         ap₂ (λ (n : ℕ) (s : Saying). answered (firstOr false (λ _. true)) (λ _. false) n (eventOf s)) (w .accepted) (w .reports .says)
 
     refuses : (i n : ℕ) → answerTold (Refused n) ≡ whyTold g q p bytes → Refuses g q bytes i n
-    unfolding isReport entryLines
+    unfolding acceptedReport entryLines
     refuses i n f = go (step g q bytes .refusal) refl (reportedIn bytes) refl
       where
         number : n ≡ whyTold g q p bytes .refusal
@@ -141,26 +141,26 @@ module _ (head : Head) (t : Lists) (q leg : ℕ) (bytes : List ℕ) (whole : Who
   whole-why : lentWhy head t q leg bytes ≡ whyTold (gateIn head t) q leg bytes
   whole-why = rw (eq-eqb _ 256 (whole .0), eq-eqb _ 256 (whole .1), eq-eqb _ 256 (whole .2), eq-eqb _ 256 (whole .3))
 
-  pub asked-event : {e : ℕ} → e ≡ numberAt bytes 8 8 → isReport (gateIn head t) q bytes ≡ true → e ≡ eventIn bytes
+  pub asked-event : {e : ℕ} → e ≡ numberAt bytes 8 8 → acceptedReport (gateIn head t) q bytes ≡ true → e ≡ eventIn bytes
   asked-event = event-there (gateIn head t) q bytes leg there
 
   module _ (a : WhyAnswer) (told : answerTold a ≡ lentWhy head t q leg bytes) where
     answer : answerTold a ≡ whyTold (gateIn head t) q leg bytes
     answer = told ∙ whole-why
 
-    pub asked-reason : {r : Reason} → a ≡ Because r → isReport (gateIn head t) q bytes ≡ true → r ≡ reasonFor (gateIn head t) q (eventIn bytes) leg
+    pub asked-reason : {r : Reason} → a ≡ Because r → acceptedReport (gateIn head t) q bytes ≡ true → r ≡ reasonFor (gateIn head t) q (eventIn bytes) leg
     asked-reason e f = same (sym e ∙ leg-reason (gateIn head t) q bytes leg there a answer f)
       where
         same : {x y : Reason} → Because x ≡ Because y → x ≡ y
         same e = cc
 
-    pub asked-refused : {n : ℕ} → a ≡ Refused n → isReport (gateIn head t) q bytes ≡ true → ⊥
+    pub asked-refused : {n : ℕ} → a ≡ Refused n → acceptedReport (gateIn head t) q bytes ≡ true → ⊥
     asked-refused {n} e f = go (sym e ∙ leg-reason (gateIn head t) q bytes leg there a answer f)
       where
         go : {r : Reason} → Refused n ≡ Because r → ⊥
         go e = let z : _≡_ {A = ℕ} 0 1 = cc in omega arith
 
-    pub asked-report : {r : Reason} → a ≡ Because r → isReport (gateIn head t) q bytes ≡ true
+    pub asked-report : {r : Reason} → a ≡ Because r → acceptedReport (gateIn head t) q bytes ≡ true
     asked-report {r} e = reason-report (gateIn head t) q bytes leg there r (ap answerTold (sym e) ∙ answer)
 
     pub asked-refuses : (i : ℕ) {n : ℕ} → a ≡ Refused n → Refuses (gateIn head t) q bytes i n

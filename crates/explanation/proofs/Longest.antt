@@ -26,7 +26,7 @@ use Rattle.gateway_rules.proofs.Reasons.{line-named}
 use Rattle.replay.specs.Files.{entryCount, portIn, bodyIn, goodFile}
 use Rattle.replay.specs.Lines.{ports, stepAt}
 use Rattle.replay.proofs.Good.{good-file}
-use Rattle.explanation.specs.Words.{eventText, nodeText, blockText, holderText, reasonText, legLine, legLines, refusedLine, entryLines, isReport, noReport, linesFrom, textOf, longestLine, longest}
+use Rattle.explanation.specs.Words.{eventText, nodeText, blockText, holderText, reasonText, legLine, legLines, refusedLine, entryLines, acceptedReport, noReport, linesFrom, textOf, longestLine, longest}
 
 -- ---- a leg's line
 
@@ -84,8 +84,8 @@ module _ (i : ℕ) (g : Gate) (q : ℕ) (hi : i < 1000) (few : length (g .lines)
   refused-length n h =
       simp length-append (omega (arith, decimal-length 3 i (omega arith) (omega (arith, hi)), decimal-length 1 n (omega arith) (omega (arith, h))))
 
-  entry-length : (bytes : List ℕ) → length (entryLines i g q bytes) ≤ cond (isReport g q bytes) (ports * longestLine) 31
-  unfolding entryLines isReport
+  entry-length : (bytes : List ℕ) → length (entryLines i g q bytes) ≤ cond (acceptedReport g q bytes) (ports * longestLine) 31
+  unfolding entryLines acceptedReport
   entry-length bytes = go (step g q bytes .refusal) (step-up-to g q bytes) (reportedIn bytes)
     where
       go : (n : ℕ) → n ≤ 8 → (es : List ℕ)
@@ -108,7 +108,7 @@ lines-length (suc n) i t g s h few =
     let q = portIn s i in
     let bytes = bodyIn s i in
     let after = step-few g q bytes few in
-    let report = isReport g q bytes in
+    let report = acceptedReport g q bytes in
     let rest = lines-length n (suc i) (t || report) (stepAt g s i .next) s (omega (arith, h)) after in
     go t report (entry-length i g q (omega (arith, h)) few bytes) rest (length-append (entryLines i g q bytes) (linesFrom n (suc i) (t || report) (stepAt g s i .next) s))
   where

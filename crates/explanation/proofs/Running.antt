@@ -21,7 +21,7 @@ use Rattle.gateway.specs.Answers.{Seen, seenLent, seenOf}
 use Rattle.replay.specs.Files.{entryCount, entryAt, portIn, lengthIn, bodyIn}
 use Rattle.replay.specs.Lines.{ports, stepAt}
 use Rattle.replay.proofs.Walk.{AtEntry, entry-first, entry-body, entry-next}
-use Rattle.explanation.specs.Words.{legLine, legLines, entryLines, isReport, noReport, linesFrom}
+use Rattle.explanation.specs.Words.{legLine, legLines, entryLines, acceptedReport, noReport, linesFrom}
 use Rattle.explanation.specs.declared.legs.SoFar.{SoFar}
 
 -- Nothing is still to be put in.
@@ -84,7 +84,7 @@ running-start g₀ file first text f h = record {
 }
 
 lines-next : (n i : ℕ) (t : Bool) (g : Gate) (s : List ℕ)
-    → linesFrom (suc n) i t g s ≡ entryLines i g (portIn s i) (bodyIn s i) ++ linesFrom n (suc i) (t || isReport g (portIn s i) (bodyIn s i)) (stepAt g s i .next) s
+    → linesFrom (suc n) i t g s ≡ entryLines i g (portIn s i) (bodyIn s i) ++ linesFrom n (suc i) (t || acceptedReport g (portIn s i) (bodyIn s i)) (stepAt g s i .next) s
 unfolding linesFrom
 lines-next n i t g s = refl
 
@@ -98,7 +98,7 @@ module _ {g₀ : Gate} {file : List ℕ} {first : Place} {text₀ : List ℕ} {i
       → bytes ≡ take (at + size - at) (drop at file)
       → told′ .place ≡ endOf (told .place) (entryLines i g (portIn file i) bytes) text
       → text′ ≡ filled (told .place) (entryLines i g (portIn file i) bytes) text
-      → told′ .reported ≡ (told .reported || isReport g (portIn file i) bytes)
+      → told′ .reported ≡ (told .reported || acceptedReport g (portIn file i) bytes)
       → seenLent head a t ≡ seenOf (step g (portIn file i) bytes)
       → Running g₀ file first text₀ (i + 1) (at + size) (gateIn (headWith head (a .marks) (a .count)) t) told′ text′
   running-next head a t {told′} h z b f₀ f₁ f₂ e =
@@ -106,7 +106,7 @@ module _ {g₀ : Gate} {file : List ℕ} {first : Place} {text₀ : List ℕ} {i
       let body = b ∙ entry-body (r .entry) z in
       let lines = ap (entryLines i g (portIn file i)) body in
       let gate = ap (λ (x : Seen). x .gate) e ∙ ap (λ (l : List ℕ). step g (portIn file i) l .next) body in
-      let reported = f₂ ∙ ap (λ (l : List ℕ). told .reported || isReport g (portIn file i) l) body in
+      let reported = f₂ ∙ ap (λ (l : List ℕ). told .reported || acceptedReport g (portIn file i) l) body in
       let all : linesFrom (entryCount file - i) i (told .reported) g file
       ≡ entryLines i g (portIn file i) (bodyIn file i) ++ linesFrom (entryCount file - (i + 1)) (i + 1) (told′ .reported) (gateIn (headWith head (a .marks) (a .count)) t) file
       = ap (λ (n : ℕ). linesFrom n i (told .reported) g file) left

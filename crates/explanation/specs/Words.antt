@@ -66,8 +66,8 @@ unfoldable pub entryLines : ℕ → Gate → ℕ → List ℕ → List ℕ
 entryLines i g q bytes = answered (firstOr [] (legLines ports 0 i g q)) (refusedLine i) (step g q bytes .refusal) (reportedIn bytes)
 
 -- Whether it is an event report that is accepted.
-unfoldable pub isReport : Gate → ℕ → List ℕ → Bool
-isReport g q bytes = answered (firstOr false (λ _. true)) (λ _. false) (step g q bytes .refusal) (reportedIn bytes)
+unfoldable pub acceptedReport : Gate → ℕ → List ℕ → Bool
+acceptedReport g q bytes = answered (firstOr false (λ _. true)) (λ _. false) (step g q bytes .refusal) (reportedIn bytes)
 
 -- ---- the text
 
@@ -78,7 +78,7 @@ noReport = ascii "no event report was accepted\n"
 unfoldable pub linesFrom : ℕ → ℕ → Bool → Gate → List ℕ → List ℕ
 linesFrom zero i reported g s = cond reported [] noReport
 linesFrom (suc n) i reported g s =
-    entryLines i g (portIn s i) (bodyIn s i) ++ linesFrom n (suc i) (reported || isReport g (portIn s i) (bodyIn s i)) (stepAt g s i .next) s
+    entryLines i g (portIn s i) (bodyIn s i) ++ linesFrom n (suc i) (reported || acceptedReport g (portIn s i) (bodyIn s i)) (stepAt g s i .next) s
 
 -- From a start of 4 ports with the house block, as the trial program has it.
 unfoldable pub textOf : List ℕ → List ℕ

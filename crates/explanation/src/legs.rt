@@ -7,7 +7,7 @@ ghost use lib.ListN.{length};
 ghost use Rattle.text.specs.Text.{filled, endOf};
 ghost use Rattle.gateway.specs.State.{Whole, gateIn, held, entered};
 ghost use Rattle.replay.specs.Lines.{ports as legCount};
-ghost use Rattle.explanation.specs.Words.{eventIn, legLines, entryLines, isReport, noReport};
+ghost use Rattle.explanation.specs.Words.{eventIn, legLines, entryLines, acceptedReport, noReport};
 use crate::lines;
 use gateway::Head;
 use gateway::WhyAnswer;
@@ -37,7 +37,7 @@ pub(crate) fn put(
     requires { ⌜ Whole (held nodes starts ports sizes) × (head .ports ≡ legCount) × (before .place .at ≤ length (now text)) ⌝ }
     ensures { λ r. ⌜ r .place ≡ endOf (before .place) (entryLines i (gateIn head (entered nodes starts ports sizes)) port (now (bytes .entry))) (now (text .entry)) ⌝ }
     ensures { λ _. ⌜ now (text .exit) ≡ filled (before .place) (entryLines i (gateIn head (entered nodes starts ports sizes)) port (now (bytes .entry))) (now (text .entry)) ⌝ }
-    ensures { λ r. ⌜ r .reported ≡ (before .reported || isReport (gateIn head (entered nodes starts ports sizes)) port (now (bytes .entry))) ⌝ }
+    ensures { λ r. ⌜ r .reported ≡ (before .reported || acceptedReport (gateIn head (entered nodes starts ports sizes)) port (now (bytes .entry))) ⌝ }
 {
     let place = before.place;
     let WhyAnswer::Refused(n) = gateway::why(head, nodes, starts, ports, sizes, port, 0, bytes)
@@ -83,7 +83,7 @@ fn put_legs(
     text: &mut [u8],
 ) -> Place
     requires { ⌜ Whole (held nodes starts ports sizes) × (head .ports ≡ legCount) × (at .at ≤ length (now text)) ⌝ }
-    requires { ⌜ isReport (gateIn head (held nodes starts ports sizes)) port (now bytes) ≡ true ⌝ }
+    requires { ⌜ acceptedReport (gateIn head (held nodes starts ports sizes)) port (now bytes) ≡ true ⌝ }
     ensures { λ r. ⌜ r ≡ endOf at (legLines legCount 0 i (gateIn head (entered nodes starts ports sizes)) port (eventIn (now (bytes .entry)))) (now (text .entry)) ⌝ }
     ensures { λ _. ⌜ now (text .exit) ≡ filled at (legLines legCount 0 i (gateIn head (entered nodes starts ports sizes)) port (eventIn (now (bytes .entry)))) (now (text .entry)) ⌝ }
 {
