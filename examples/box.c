@@ -1,4 +1,6 @@
-/* Two boards on one leg of a box: board 9 restarts, and what board 7 wants still comes to it. Prints a line a message. */
+/* Two boards on one leg of a box: board 9 restarts, and what board 7 wants still comes to it. Prints a line a message, and why the panel's
+ * report goes to the boards' leg or does not. */
+#include <inttypes.h>
 #include <stdio.h>
 
 #include "hrislanoth.h"
@@ -53,6 +55,19 @@ static void restart(const char *what, uint8_t port, uint64_t source)
     at_port(what, port, message, content, sizeof content);
 }
 
+/* Why the panel's report of the points, which comes in at port 0, goes to the asked port or does not; the box stays as it is. */
+static void ask_why(uint8_t asked)
+{
+    uint8_t bytes[16];
+    hrislanoth_message report = {.mti = 0x05B4, .source = PANEL, .has_event = 1, .event = POINTS};
+    hrislanoth_writing written = hrislanoth_write(report, (const uint8_t *)"", 0, bytes, sizeof bytes);
+    hrislanoth_reason why = hrislanoth_why(box.head, box.nodes, 256, box.starts, 256, box.ports, 256, box.sizes, 256, 0, asked, bytes, written.bytes);
+    printf("why at port %d: refusal %d, reason %d", asked, why.refusal, why.reason);
+    if (why.reason == 4)
+        printf(", line %zu of board %012" PRIX64, why.place, why.node);
+    printf("\n");
+}
+
 int main(void)
 {
     hrislanoth_answer started = hrislanoth_start(4, HOUSE);
@@ -63,8 +78,11 @@ int main(void)
     with_event("the panel reports", 0, 0x05B4, PANEL, POINTS);
     restart("board 9 restarts", 2, BOARD_9);
     with_event("the panel reports", 0, 0x05B4, PANEL, POINTS);
+    ask_why(2);
     restart("board 7 restarts", 2, BOARD_7);
     with_event("the panel reports", 0, 0x05B4, PANEL, POINTS);
+    ask_why(2);
+    ask_why(4);
     with_event("a node of zero", 0, 0x05B4, 0, POINTS);
     return 0;
 }

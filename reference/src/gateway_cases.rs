@@ -3,6 +3,7 @@
 use crate::case_file::{places, text_of, Case};
 use crate::gateway::{Gateway, Line, Outcome, MOST_LINES};
 use crate::refusal;
+use crate::why::Reason;
 
 /// Of a longer table not every line is printed (CASE-FILES).
 const SHORT: usize = 8;
@@ -59,6 +60,14 @@ fn obey(bench: &mut Bench, case: &Case) -> Option<String> {
                 return Some(bench.receive(1, port as u8, message));
             }
             Some(bench.told(&refused(refusal::BOUNDS), ", kept"))
+        }
+        ("why", &[port, asked], Some(message)) => {
+            let all = [MOST_LINES as u64; 4];
+            Some(bench.why(all, port as u8, asked as u8, message))
+        }
+        ("why", &[nodes, starts, ports, sizes, port, asked], Some(message)) => {
+            let lengths = [nodes % 257, starts % 258, ports % 257, sizes % 257];
+            Some(bench.why(lengths, port as u8, asked as u8, message))
         }
         _ => None,
     }
@@ -121,6 +130,20 @@ impl Bench {
             ", CHANGED"
         };
         self.told(&outcome, kept)
+    }
+
+    /// Why a report goes to the asked port or not, on lists of which so many places are lent (CASE-FILES, `why`; 02, W1).
+    fn why(&self, lengths: [u64; 4], port: u8, asked: u8, message: &[u8]) -> String {
+        let lengths = lengths.map(|length| length as usize);
+        let (port, asked) = (u32::from(port), u32::from(asked));
+        match self.gateway().why_on_lists(lengths, port, asked, message) {
+            Ok(Reason::Held { place, line }) => format!(
+                "  reason 4; line {place:x} {:012x} {:016x} {:x}\n",
+                line.node, line.start, line.k
+            ),
+            Ok(reason) => format!("  reason {}\n", reason.number()),
+            Err(refusal) => format!("  refused {refusal}\n"),
+        }
     }
 
     /// The state as the box has it (01-scope, Gateway).
@@ -261,5 +284,37 @@ mod tests {
         );
         assert!(text("start 9 0\n").ends_with("  refused 8; box 0 0 0000000000000000 40 0\n"));
         assert!(text("start 9\n").ends_with("  line 1: cannot be read\n"));
+    }
+
+    /// 02, W1: each reason as it is printed, the line with its place, node and block, a refusal alone; the state stays.
+    #[test]
+    fn reasons() {
+        let laid = "box 4 8 0100000000000000 10 b\nlines a a 1 2 0a0000000007 0a00000000010000 10 0\nlines 0 9 1 1 0a0000000001 5 0 0\n";
+        let report = "05b4 0a0000000009 0a00000000010001";
+        for (asked, expected) in [
+            (format!("why 0 0: {report}"), "reason 1"),
+            (
+                "why 0 2: 05b4 0a0000000009 0100000000000000".to_string(),
+                "reason 2",
+            ),
+            (format!("why 0 3: {report}"), "reason 3"),
+            (
+                format!("why 0 2: {report}"),
+                "reason 4; line a 0a0000000007 0a00000000010000 10",
+            ),
+            (format!("why 0 1: {report}"), "reason 5"),
+            (format!("why 100 100 100 100 0 1: {report}"), "reason 5"),
+            (format!("why 100 101 100 100 0 1: {report}"), "refused 7"),
+            (format!("why ff 100 100 100 0 4: {report}"), "refused 7"),
+            (format!("why 0 4: {report}"), "refused 8"),
+            (
+                "why 0 1: 04c4 0a0000000009 0a00000000010001".to_string(),
+                "refused 15",
+            ),
+            ("why 0: 05".to_string(), "line 4: cannot be read"),
+        ] {
+            let file = format!("{laid}{asked}\n");
+            assert_eq!(text(&file), format!("{file}  {expected}\n"));
+        }
     }
 }

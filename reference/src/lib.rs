@@ -1,16 +1,18 @@
 //! The box and the boards once more, written from the documents alone and without the Rattle code: what the judge compares with.
 //! `judging` is the judge itself.
 //!
-//! The comments name the documents: "01-scope" is document 01, "001" the Event Transport Standard of July 2024, "003" the Message Network draft,
-//! "BOARD-FILES" the page docs/BOARD-FILES.md, "TRIAL-CASES" docs/TRIAL-CASES.md, "CASE-FILES" docs/CASE-FILES.md.
+//! The comments name the documents: "00-order" is document 00, "01-scope" document 01, "02" the change requests of document 02, "001" the Event
+//! Transport Standard of July 2024, "003" the Message Network draft, "BOARD-FILES" the page docs/BOARD-FILES.md, "TRIAL-CASES" docs/TRIAL-CASES.md, "CASE-FILES" docs/CASE-FILES.md.
 
 pub mod board;
 pub mod call;
 pub mod case_file;
+pub mod explain;
 pub mod gateway;
 pub mod gateway_cases;
 pub mod judging;
 pub mod lent_board;
+pub mod lent_box;
 pub mod message;
 pub mod node;
 pub mod node_cases;
@@ -19,6 +21,8 @@ pub mod proved;
 pub mod range;
 pub mod trial;
 pub mod trial_cases;
+pub mod why;
+pub mod why_text;
 
 /// The refusal numbers (01-scope, Refusal numbers).
 pub mod refusal {
@@ -52,4 +56,6 @@ pub mod refusal {
     pub const REPLIES: u8 = 13;
     /// No range number; in other range calls, no block.
     pub const NO_RANGE: u8 = 14;
+    /// The message isn't an event report (02, W1).
+    pub const NO_REPORT: u8 = 15;
 }

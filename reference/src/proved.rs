@@ -3,17 +3,7 @@
 
 pub mod boards;
 
-use crate::gateway;
-
-/// The places of a box's table.
-pub const PLACES: usize = 256;
-
-#[repr(C)]
-#[derive(Clone, Copy, Debug, PartialEq, Eq)]
-pub struct Block {
-    pub start: u64,
-    pub k: u8,
-}
+pub use crate::lent_box::{Answer, Block, Gateway, Head, LentAnswer, Lists, Reason, PLACES};
 
 #[repr(C)]
 #[derive(Clone, Copy, Debug, PartialEq, Eq)]
@@ -48,78 +38,10 @@ pub struct Writing {
     pub bytes: usize,
 }
 
-#[repr(C)]
-#[derive(Clone, Copy, Debug, PartialEq, Eq)]
-pub struct Head {
-    pub ports: u8,
-    pub marks: u8,
-    pub automatic: Block,
-    pub count: usize,
-}
-
-#[repr(C)]
-#[derive(Clone, Copy)]
-pub struct Gateway {
-    pub head: Head,
-    pub nodes: [u64; PLACES],
-    pub starts: [u64; PLACES],
-    pub ports: [u8; PLACES],
-    pub sizes: [u8; PLACES],
-}
-
-impl Gateway {
-    /// The line in a place, as the reference has lines.
-    pub fn line(&self, place: usize) -> gateway::Line {
-        gateway::Line {
-            port: self.ports[place].into(),
-            node: self.nodes[place],
-            start: self.starts[place],
-            k: self.sizes[place].into(),
-        }
-    }
-
-    /// Puts a line into a place; its port and k fit into a byte.
-    pub fn set_line(&mut self, place: usize, line: &gateway::Line) {
-        self.nodes[place] = line.node;
-        self.starts[place] = line.start;
-        self.ports[place] = line.port as u8;
-        self.sizes[place] = line.k as u8;
-    }
-
-    /// The lines up to the count, which may say more than there are places.
-    pub fn lines(&self) -> Vec<gateway::Line> {
-        let count = self.head.count.min(PLACES);
-        (0..count).map(|place| self.line(place)).collect()
-    }
-}
-
-#[repr(C)]
-#[derive(Clone, Copy)]
-pub struct Answer {
-    pub refusal: u8,
-    pub sent: u8,
-    pub gateway: Gateway,
-}
-
-#[repr(C)]
-#[derive(Clone, Copy, Debug, PartialEq, Eq)]
-pub struct LentAnswer {
-    pub refusal: u8,
-    pub sent: u8,
-    pub marks: u8,
-    pub count: usize,
-}
-
-/// A box's lists, lent for one call; only 256 places each are taken.
-pub struct Lists<'a> {
-    pub nodes: &'a mut [u64],
-    pub starts: &'a mut [u64],
-    pub ports: &'a mut [u8],
-    pub sizes: &'a mut [u8],
-}
-
 mod linked {
-    use super::{Answer, Block, Gateway, Head, LentAnswer, Message, Number, Reading, Writing};
+    use super::{
+        Answer, Block, Gateway, Head, LentAnswer, Message, Number, Reading, Reason, Writing,
+    };
 
     #[link(name = "c_face", kind = "static")]
     extern "C" {
@@ -154,6 +76,21 @@ mod linked {
             bytes: *const u8,
             length: usize,
         ) -> LentAnswer;
+        pub fn hrislanoth_why(
+            head: Head,
+            nodes: *const u64,
+            nodes_length: usize,
+            starts: *const u64,
+            starts_length: usize,
+            ports: *const u8,
+            ports_length: usize,
+            sizes: *const u8,
+            sizes_length: usize,
+            port: u8,
+            asked: u8,
+            bytes: *const u8,
+            length: usize,
+        ) -> Reason;
         pub fn hrislanoth_trial_text(
             file: *const u8,
             length: usize,
@@ -207,13 +144,7 @@ pub fn receive(gateway: &Gateway, port: u8, bytes: &[u8]) -> Answer {
 /// In place: the refusal or 0, and the ports it is sent to.
 #[inline]
 pub fn receive_lent(gateway: &mut Gateway, port: u8, bytes: &[u8]) -> (u8, u8) {
-    let lists = Lists {
-        nodes: &mut gateway.nodes,
-        starts: &mut gateway.starts,
-        ports: &mut gateway.ports,
-        sizes: &mut gateway.sizes,
-    };
-    let answer = receive_lists(gateway.head, lists, port, bytes);
+    let answer = receive_lists(gateway.head, gateway.lists(), port, bytes);
     gateway.head.marks = answer.marks;
     gateway.head.count = answer.count;
     (answer.refusal, answer.sent)
@@ -234,6 +165,27 @@ pub fn receive_lists(head: Head, lists: Lists, port: u8, bytes: &[u8]) -> LentAn
             lists.sizes.as_mut_ptr(),
             lists.sizes.len(),
             port,
+            bytes.as_ptr(),
+            bytes.len(),
+        )
+    }
+}
+
+/// Why a report goes to the asked port or not. The call only reads the lists; they are lent for writing so that a write would show.
+pub fn why(head: Head, lists: Lists, port: u8, asked: u8, bytes: &[u8]) -> Reason {
+    unsafe {
+        linked::hrislanoth_why(
+            head,
+            lists.nodes.as_mut_ptr(),
+            lists.nodes.len(),
+            lists.starts.as_mut_ptr(),
+            lists.starts.len(),
+            lists.ports.as_mut_ptr(),
+            lists.ports.len(),
+            lists.sizes.as_mut_ptr(),
+            lists.sizes.len(),
+            port,
+            asked,
             bytes.as_ptr(),
             bytes.len(),
         )

@@ -1,7 +1,7 @@
 -- Answers and messages without enums, as C has them.
 use Prim.Native.Nat.{ℕ}
 use mathlib.Core.Bool.{cond}
-use mathlib.Core.List.{List}
+use mathlib.Core.List.{List, []}
 use lib.Dec.{eqb}
 use Rattle.basics.specs.Lists.{firstOr}
 use Rattle.basics.specs.Refusals.{Told}
@@ -9,10 +9,13 @@ use Rattle.message.specs.declared.Field.{Field}
 use Rattle.message.specs.declared.Field.the-variants.{Present, Absent}
 use Rattle.message.specs.declared.Message.{Message}
 use Rattle.message.specs.Mti.{contentAt}
+use Rattle.gateway_rules.specs.declared.Holder.{Holder}
+use Rattle.gateway_rules.specs.Reasons.{Numbered}
 use Rattle.c_face.specs.declared.FlatNumber.{FlatNumber}
 use Rattle.c_face.specs.declared.FlatMessage.{FlatMessage}
 use Rattle.c_face.specs.declared.FlatReading.{FlatReading}
 use Rattle.c_face.specs.declared.FlatWriting.{FlatWriting}
+use Rattle.c_face.specs.declared.reasons.FlatReason.{FlatReason}
 
 -- ---- ranges
 
@@ -55,3 +58,19 @@ toldReading t = record { refusal = t .refusal; message = firstOr noMessage messa
 
 abbrev pub toldWriting : Told (List ℕ) → FlatWriting
 toldWriting t = record { refusal = t .refusal; bytes = firstOr 0 (λ n. n) (t .value) }
+
+-- ---- the box
+
+-- The line that a reason names, if there is one.
+abbrev pub namedIn : Told (List Numbered) → List Holder
+namedIn t = firstOr [] (λ r. r .named) (t .value)
+
+-- What is told of a reason; beside a refusal, and of a line where none is named, every number is 0.
+abbrev pub toldReason : Told (List Numbered) → FlatReason
+toldReason t = record {
+  refusal = t .refusal;
+  reason = firstOr 0 (λ r. r .number) (t .value);
+  place = firstOr 0 (λ l. l .place) (namedIn t);
+  node = firstOr 0 (λ l. l .node) (namedIn t);
+  block = firstOr (record { start = 0; k = 0 }) (λ l. l .block) (namedIn t);
+}

@@ -1,5 +1,6 @@
 // The proved functions for C and for what links with C; include/hrislanoth.h is the header.
 mod lists;
+mod reasons;
 mod records;
 
 ghost use mathlib.Core.Path.{_≡_};

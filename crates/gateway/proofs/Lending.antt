@@ -1,18 +1,21 @@
--- A step on lent lists: with 256 places each it is the step of the box.
+-- A step and a question on lent lists: with 256 places each they are those of the box.
 use Prim.Native.Nat.{ℕ}
 use mathlib.Core.Path.{_≡_, refl, sym, ap, _∙_}
 use mathlib.Core.Bool.{Bool, true, false, cond, not, _||_}
-use mathlib.Core.List.{List}
+use mathlib.Core.List.{List, []}
 use borrow.Author.Tests.{eqb-true, not-false}
 use lib.Dec.{eqb}
 use lib.ListN.{length}
+use Rattle.basics.specs.Refusals.{refused}
 use Rattle.basics.proofs.Bools.{neither}
 use Rattle.basics.proofs.Sets.{nobody}
 use Rattle.gateway.specs.declared.state.Head.{Head}
 use Rattle.gateway.specs.State.{Lists, gateIn, Whole, headWith}
 use Rattle.gateway_rules.specs.Step.{Outcome, refusing, step}
+use Rattle.gateway_rules.specs.Reasons.{whyTold}
 use Rattle.gateway.specs.declared.LentAnswer.{LentAnswer}
 use Rattle.gateway.specs.Answers.{seenLent, seenOf, badLists, lentStep, lentRefusalKeeps}
+use Rattle.gateway.specs.Asking.{lentWhy}
 
 not-bad : (t : Lists) → Whole t → badLists t ≡ false
 not-bad t w = rw (w .0, w .1, w .2, w .3)
@@ -29,6 +32,9 @@ module _ (head : Head) (t : Lists) (q : ℕ) (bytes : List ℕ) where
 
   pub whole-step : Whole t → lentStep head t q bytes ≡ step (gateIn head t) q bytes
   whole-step w = good-step (not-bad t w)
+
+  pub whole-why : (p : ℕ) → Whole t → lentWhy head t q p bytes ≡ whyTold (gateIn head t) q p bytes
+  whole-why p w = ap (λ (y : Bool). cond y (refused 7 []) (whyTold (gateIn head t) q p bytes)) (not-bad t w)
 
   -- A refusal that the step gives.
   pub refusal-given : (r : LentAnswer) (n : ℕ) → (r .refusal ≡ n) × (r .sent ≡ 0) × (r .marks ≡ head .marks) × (r .count ≡ head .count)

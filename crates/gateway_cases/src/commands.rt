@@ -5,6 +5,7 @@ use crate::reading::Line;
 use crate::report;
 use crate::tables;
 use crate::tables::byte;
+use crate::why;
 use gateway::Answer;
 use gateway::Gateway;
 
@@ -21,6 +22,10 @@ const REPEAT: u64 = 0x72_6570_6521;
 
 const LENT: u64 = 0x6C_656E_7451;
 
+const WHY: u64 = 0x7768_7921;
+
+const WHY_LENT: u64 = 0x7768_7961;
+
 pub(crate) fn obey(g: Gateway, l: Line, number: usize) -> Gateway {
     let numbers = l.numbers;
     let bytes = l.bytes;
@@ -33,6 +38,8 @@ pub(crate) fn obey(g: Gateway, l: Line, number: usize) -> Gateway {
         AT => report::told(g, received(g, byte(numbers[1]), 1, bytes, length)),
         REPEAT => report::told(g, received(g, byte(numbers[2]), numbers[1], bytes, length)),
         LENT => report::told(g, lent::received(g, numbers, bytes, length)),
+        WHY => why::asked(g, why::whole(numbers[1], numbers[2]), bytes, length),
+        WHY_LENT => why::asked(g, numbers, bytes, length),
         _ => {
             report::not_read(number);
             g

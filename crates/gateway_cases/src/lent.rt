@@ -94,7 +94,7 @@ fn answered(old: Head, a: Lent) -> Answer {
     }
 }
 
-fn longer(list: [u64; 256]) -> [u64; 257] {
+pub(crate) fn longer(list: [u64; 256]) -> [u64; 257] {
     let mut next = [list[255]; 257];
     let mut i = 0;
     while i < 256 {

@@ -4,6 +4,7 @@ mod lent;
 mod reading;
 mod report;
 mod tables;
+mod why;
 
 use gateway::Gateway;
 use libc::STDIN_FILENO;

@@ -3,6 +3,9 @@ use crate::tables::total;
 use gateway::Answer;
 use gateway::Gateway;
 use gateway::Head;
+use gateway::WhyAnswer;
+use gateway_rules::Holder;
+use gateway_rules::Reason;
 use libc::STDOUT_FILENO;
 
 // What a message came to, and the next state, which comes back.
@@ -103,6 +106,35 @@ fn line(place: usize, port: u8, node: u64, start: u64, k: u8) {
     hex(start, 16);
     hex(k as u64, 1);
     say(b"\n");
+}
+
+// The reason by its number, and the line that it names.
+pub(crate) fn reason(a: WhyAnswer) {
+    match a {
+        WhyAnswer::Because(r) => because(r),
+        WhyAnswer::Refused(refusal) => answer(refusal, 0, 0),
+    }
+    say(b"\n");
+}
+
+fn because(r: Reason) {
+    say(b"  reason ");
+    match r {
+        Reason::ArrivalPort => say(b"1"),
+        Reason::AutomaticEvent => say(b"2"),
+        Reason::OpenPort => say(b"3"),
+        Reason::HeldBy(l) => held_by(l),
+        Reason::NothingHolds => say(b"5"),
+    }
+}
+
+fn held_by(l: Holder) {
+    let block = l.block;
+    say(b"4; line");
+    hex(l.place as u64, 1);
+    hex(l.node, 12);
+    hex(block.start, 16);
+    hex(block.k as u64, 1);
 }
 
 pub(crate) fn not_read(number: usize) {

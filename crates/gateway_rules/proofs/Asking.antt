@@ -56,6 +56,22 @@ why-accepted g q p bytes =
 pub why-up-to : (g : Gate) (q p : ℕ) (bytes : List ℕ) → whyTold g q p bytes .refusal ≤ 15
 why-up-to g q p bytes = omega (arith, why-number g q p bytes, first-up-to 15 (whyTests g q p bytes) refl)
 
+-- No reason's number is above 5.
+pub reason-up-to : (g : Gate) (q p : ℕ) (bytes : List ℕ) → firstOr 0 (λ r. r .number) (whyTold g q p bytes .value) ≤ 5
+unfolding whyTold
+reason-up-to g q p bytes = go (firstOf (whyTests g q p bytes)) (reasonFor g q (firstOr 0 (λ e. e) (reportedIn bytes)) p)
+  where
+    one : (r : Reason) → reasonTold r .number ≤ 5
+    one ArrivalPort = omega arith
+    one AutomaticEvent = omega arith
+    one OpenPort = omega arith
+    one (HeldBy l) = omega arith
+    one NothingHolds = omega arith
+
+    go : (n : ℕ) (r : Reason) → firstOr 0 (λ x. x .number) (answered (λ y. told (y ∷ [])) (λ k. refused k []) n (reasonTold r) .value) ≤ 5
+    go zero r = one r
+    go (suc n) r = omega arith
+
 -- ---- asked of a port that is there: the gateway call's refusal, and 15 where it has none and the message is no report
 
 abbrev noReport : List ℕ → Bool

@@ -14,7 +14,7 @@ use super::{boards, boxes, calls, messages, ranges, trials, verdict};
 /// The judge of the archive.
 const JUDGE: Judge = Judge {
     name: "./judge",
-    sorts: &Sort::ALL,
+    sorts: &Sort::OF_ARCHIVE,
     amounts: Amounts {
         files: 2_000,
         small: 50_000,
@@ -40,7 +40,7 @@ pub fn run(words: &[String]) -> ExitCode {
 fn run_all(options: &Options) -> ExitCode {
     let mut columns = Columns::default();
     let mut differences = Vec::new();
-    for sort in Sort::ALL {
+    for sort in Sort::OF_ARCHIVE {
         let column = &mut columns[sort as usize];
         for index in 0..options.amounts.of(sort) {
             if differs(options.seed, sort, index, column) {
@@ -66,9 +66,10 @@ fn judge(seed: u64, sort: Sort, index: u64, witness: &mut Witness) {
     match sort {
         Sort::Range => ranges::judge(&mut dice, witness),
         Sort::Message => messages::judge(&mut dice, index, witness),
-        Sort::Box => boxes::judge(&mut dice, witness),
+        Sort::Box => boxes::judge(&mut dice, witness, &Archive),
         Sort::Trial => trials::judge(&mut dice, witness),
         Sort::Board => boards::judge(&mut dice, witness),
         Sort::Calls => calls::judge(&mut dice, witness, &Archive),
+        Sort::Why | Sort::Explain => unreachable!("these are of the programs alone"),
     }
 }

@@ -1,20 +1,33 @@
-//! The box: starts, histories from a start, and histories from states laid out by hand, each message by value and in place.
+//! The box: starts, histories from a start, and histories from states laid out by hand, each message by value and in place; and questions why
+//! between the messages.
 
 use std::collections::BTreeSet;
 use std::fmt::{self, Debug, Formatter};
 
 use crate::gateway::{self, Line};
-use crate::proved::{self, Block, Gateway, Head, PLACES};
+use crate::lent_box::{self, Block, Gateway, Head, LentAnswer, Lists, Reason, PLACES};
 
 use super::functions::Function;
 use super::histories::{any_history, history_in, Arrival};
 use super::laid_out::{any_numbers, Layout};
 use super::lengths;
 use super::observed;
+use super::questions::{self, Blocks, Question};
 use super::random::Dice;
 use super::rows::{Row, BOX_WAY_COUNT};
 use super::witness::Witness;
 use super::world::{Area, World};
+
+/// The calls of a box on the proved side.
+pub trait Calls {
+    fn start(&self, ports: u8, automatic: u64) -> lent_box::Answer;
+    /// By value: the state goes in and comes out.
+    fn receive(&self, gateway: &Gateway, port: u8, bytes: &[u8]) -> lent_box::Answer;
+    /// In place, on lists of any length.
+    fn receive_lists(&self, head: Head, lists: Lists, port: u8, bytes: &[u8]) -> LentAnswer;
+    /// Why a report goes to the asked port or not, on lists of any length.
+    fn why(&self, head: Head, lists: Lists, port: u8, asked: u8, bytes: &[u8]) -> Reason;
+}
 
 /// What a call answers, and the whole state after it.
 #[derive(PartialEq, Debug)]
@@ -27,7 +40,7 @@ struct Answer {
 
 /// The lines of a table, shown one by one only where an answer is shown in full.
 #[derive(PartialEq)]
-struct Lines(Vec<Line>);
+pub struct Lines(Vec<Line>);
 
 impl Debug for Lines {
     fn fmt(&self, out: &mut Formatter) -> fmt::Result {
@@ -57,40 +70,46 @@ struct Boxes {
 }
 
 /// One start or one state, and the messages that follow.
-pub fn judge(dice: &mut Dice, witness: &mut Witness) {
+pub fn judge(dice: &mut Dice, witness: &mut Witness, calls: &impl Calls) {
     match dice.weighted(&[55, 5, 20, 20]) {
-        0 => judge_history(dice, witness),
-        1 => judge_refused_start(dice, witness),
-        2 => judge_layout(dice, witness),
-        _ => judge_out_of_bounds(dice, witness),
+        0 => judge_history(dice, witness, calls),
+        1 => judge_refused_start(dice, witness, calls),
+        2 => judge_layout(dice, witness, calls),
+        _ => judge_out_of_bounds(dice, witness, calls),
     }
 }
 
 /// A history from a start.
-fn judge_history(dice: &mut Dice, witness: &mut Witness) {
+fn judge_history(dice: &mut Dice, witness: &mut Witness, calls: &impl Calls) {
     let ports = dice.between(2, 8) as u8;
     let automatic = Area::any_automatic(dice);
-    let Some(boxes) = started(witness, ports, automatic.number) else {
+    let Some(boxes) = started(witness, calls, ports, automatic.number) else {
         return;
     };
     let arrivals = any_history(dice, ports, automatic);
-    follow(dice, witness, boxes, &arrivals);
+    follow(dice, witness, calls, boxes, &arrivals);
 }
 
 /// A start with a port count that is none; every message is refused after it.
-fn judge_refused_start(dice: &mut Dice, witness: &mut Witness) {
+fn judge_refused_start(dice: &mut Dice, witness: &mut Witness, calls: &impl Calls) {
     let ports = dice.pick(&[0, 1, 9, 10, 16, 127, 128, 255]);
     let automatic = Area::any_automatic(dice);
-    let Some(boxes) = started(witness, ports, automatic.number) else {
+    let Some(boxes) = started(witness, calls, ports, automatic.number) else {
         return;
     };
     let world = World::new(dice, 2, 2, automatic);
     let arrivals = history_in(dice, 8, world);
-    follow(dice, witness, boxes, &arrivals[..arrivals.len().min(3)]);
+    follow(
+        dice,
+        witness,
+        calls,
+        boxes,
+        &arrivals[..arrivals.len().min(3)],
+    );
 }
 
 /// A history from a state in bounds that need not come from a start.
-fn judge_layout(dice: &mut Dice, witness: &mut Witness) {
+fn judge_layout(dice: &mut Dice, witness: &mut Witness, calls: &impl Calls) {
     let automatic = Area::any_automatic(dice);
     let events = dice.pick(&[40, 1_000]);
     let mut world = World::new(dice, 3, events, automatic);
@@ -100,11 +119,11 @@ fn judge_layout(dice: &mut Dice, witness: &mut Witness) {
     let reports = (0..4).filter_map(|_| layout.report_of_a_line(dice, &world));
     let mut arrivals: Vec<Arrival> = reports.collect();
     arrivals.extend(history_in(dice, layout.ports, world));
-    follow(dice, witness, boxes, &arrivals);
+    follow(dice, witness, calls, boxes, &arrivals);
 }
 
 /// A state out of bounds in one way only: every message is refused and nothing changes.
-fn judge_out_of_bounds(dice: &mut Dice, witness: &mut Witness) {
+fn judge_out_of_bounds(dice: &mut Dice, witness: &mut Witness, calls: &impl Calls) {
     let automatic = Area::any_automatic(dice);
     let world = World::new(dice, 3, 40, automatic);
     let mut layout = Layout::in_bounds(dice, &world, automatic);
@@ -113,12 +132,18 @@ fn judge_out_of_bounds(dice: &mut Dice, witness: &mut Witness) {
     layout.spoil(dice, way);
     witness.column.saw(Row::BoxWay(way));
     let boxes = Boxes::of_layout(dice, &layout);
-    follow(dice, witness, boxes, &arrivals[..arrivals.len().min(4)]);
+    follow(
+        dice,
+        witness,
+        calls,
+        boxes,
+        &arrivals[..arrivals.len().min(4)],
+    );
 }
 
 /// Starts a box on both sides; nothing where they differ.
-fn started(witness: &mut Witness, ports: u8, number: u64) -> Option<Boxes> {
-    let answer = proved::start(ports, number);
+fn started(witness: &mut Witness, calls: &impl Calls, ports: u8, number: u64) -> Option<Boxes> {
+    let answer = calls.start(ports, number);
     let (reference, refusal) = gateway::Gateway::start(u32::from(ports), number);
     witness.column.saw_answer(Function::Start, refusal);
     let boxes = Boxes {
@@ -133,23 +158,33 @@ fn started(witness: &mut Witness, ports: u8, number: u64) -> Option<Boxes> {
     witness.compare(asked, &ours, &theirs).then_some(boxes)
 }
 
-/// Puts messages to both sides, up to the first difference, and last one of them with a list of another length.
-fn follow(dice: &mut Dice, witness: &mut Witness, mut boxes: Boxes, arrivals: &[Arrival]) {
+/// Puts messages and questions to both sides, up to the first difference, and last one message with a list of another length.
+fn follow(
+    dice: &mut Dice,
+    witness: &mut Witness,
+    calls: &impl Calls,
+    mut boxes: Boxes,
+    arrivals: &[Arrival],
+) {
     let before = proved_answer(&boxes.by_value, 0, 0);
     witness.show(|| format!("before the first message: {before:#X?}"));
     let asked = || "nothing; the same state on both sides".to_string();
     witness.compare(asked, &before, &boxes.reference_answer(0, 0));
     let litter = dice.chance(30);
-    for arrival in arrivals {
+    for (place, arrival) in arrivals.iter().enumerate() {
         if litter {
             boxes.litter(dice);
         }
-        if !boxes.step(witness, arrival) {
+        // Every state that is laid out is asked.
+        if (place == 0 || dice.chance(40)) && !boxes.ask(dice, witness, calls, arrival) {
+            return;
+        }
+        if !boxes.step(witness, calls, arrival) {
             return;
         }
     }
     let place = dice.between(0, arrivals.len() - 1);
-    lengths::judge(dice, witness, &boxes.in_place, &arrivals[place]);
+    lengths::judge(dice, witness, calls, &boxes.in_place, &arrivals[place]);
 }
 
 impl Boxes {
@@ -176,12 +211,42 @@ impl Boxes {
         }
     }
 
+    /// Asks both sides why, once or more, beside a message; whether they agree.
+    fn ask(
+        &self,
+        dice: &mut Dice,
+        witness: &mut Witness,
+        calls: &impl Calls,
+        arrival: &Arrival,
+    ) -> bool {
+        (0..dice.between(1, 3)).all(|_| {
+            let question = self.any_question(dice, arrival);
+            questions::ask(witness, calls, &self.in_place, &self.reference, &question)
+        })
+    }
+
+    /// A question, at times of a line that stands past the count, which no answer may depend on.
+    fn any_question(&self, dice: &mut Dice, arrival: &Arrival) -> Question {
+        let lines = match dice.chance(8) {
+            true => all_places(&self.in_place).0,
+            false => self.in_place.lines(),
+        };
+        let Head {
+            ports, automatic, ..
+        } = self.in_place.head;
+        let blocks = Blocks {
+            lines: &lines,
+            automatic: (automatic.start, automatic.k.into()),
+        };
+        Question::any(dice, ports, &blocks, arrival)
+    }
+
     /// Puts one message to both sides; whether they agree.
-    fn step(&mut self, witness: &mut Witness, arrival: &Arrival) -> bool {
+    fn step(&mut self, witness: &mut Witness, calls: &impl Calls, arrival: &Arrival) -> bool {
         let outcome = observed::receive(&mut self.reference, arrival, witness.column);
         let expected = self.reference_answer(outcome.refusal, bits(&outcome.sent));
-        let by_value = self.step_by_value(witness, arrival, &expected);
-        let in_place = self.step_in_place(witness, arrival, &expected);
+        let by_value = self.step_by_value(witness, calls, arrival, &expected);
+        let in_place = self.step_in_place(witness, calls, arrival, &expected);
         by_value && in_place
     }
 
@@ -189,10 +254,11 @@ impl Boxes {
     fn step_by_value(
         &mut self,
         witness: &mut Witness,
+        calls: &impl Calls,
         arrival: &Arrival,
         expected: &Answer,
     ) -> bool {
-        let answer = proved::receive(&self.by_value, arrival.port, &arrival.bytes);
+        let answer = calls.receive(&self.by_value, arrival.port, &arrival.bytes);
         self.by_value = answer.gateway;
         let ours = proved_answer(&self.by_value, answer.refusal, answer.sent);
         witness.compare(|| arrival.put("by value"), &ours, expected)
@@ -202,13 +268,15 @@ impl Boxes {
     fn step_in_place(
         &mut self,
         witness: &mut Witness,
+        calls: &impl Calls,
         arrival: &Arrival,
         expected: &Answer,
     ) -> bool {
         let before = all_places(&self.in_place);
-        let (refusal, sent) =
-            proved::receive_lent(&mut self.in_place, arrival.port, &arrival.bytes);
-        let ours = proved_answer(&self.in_place, refusal, sent);
+        let (head, lists) = (self.in_place.head, self.in_place.lists());
+        let answer = calls.receive_lists(head, lists, arrival.port, &arrival.bytes);
+        (self.in_place.head.marks, self.in_place.head.count) = (answer.marks, answer.count);
+        let ours = proved_answer(&self.in_place, answer.refusal, answer.sent);
         let same = witness.compare(|| arrival.put("in place"), &ours, expected);
         if expected.refusal == 0 {
             return same;
@@ -246,7 +314,7 @@ fn proved_answer(gateway: &Gateway, refusal: u8, sent: u8) -> Answer {
 }
 
 /// What stands in the lists, past the count too.
-fn all_places(gateway: &Gateway) -> Lines {
+pub fn all_places(gateway: &Gateway) -> Lines {
     Lines((0..PLACES).map(|place| gateway.line(place)).collect())
 }
 

@@ -22,7 +22,9 @@ impl Amounts {
     pub fn of(self, sort: Sort) -> u64 {
         match sort {
             Sort::Range | Sort::Message => self.small,
-            Sort::Box | Sort::Trial | Sort::Board | Sort::Calls => self.files,
+            Sort::Box | Sort::Trial | Sort::Board | Sort::Calls | Sort::Why | Sort::Explain => {
+                self.files
+            }
         }
     }
 }
@@ -122,7 +124,7 @@ mod tests {
 
     const ALL: Judge = Judge {
         name: "all",
-        sorts: &Sort::ALL,
+        sorts: &Sort::OF_ARCHIVE,
         amounts: Amounts {
             files: 2_000,
             small: 50_000,
@@ -131,7 +133,7 @@ mod tests {
     };
     const FILES_ONLY: Judge = Judge {
         name: "files only",
-        sorts: &[Sort::Trial, Sort::Board],
+        sorts: &Sort::OF_PROGRAMS,
         amounts: Amounts {
             files: 30,
             small: 0,
@@ -156,6 +158,11 @@ mod tests {
         let files = options(&FILES_ONLY, "--only board:9").unwrap();
         assert_eq!(files.amounts, FILES_ONLY.amounts);
         assert_eq!(files.only, Some((Sort::Board, 9)));
+        for (name, sort) in [("why", Sort::Why), ("explain", Sort::Explain)] {
+            let only = options(&FILES_ONLY, &format!("--only {name}:7")).unwrap();
+            assert_eq!(only.only, Some((sort, 7)));
+            assert!(options(&ALL, &format!("--only {name}:7")).is_err());
+        }
     }
 
     #[test]

@@ -11,6 +11,7 @@ pub enum Function {
     Write,
     Start,
     Receive,
+    Why,
     Initialise,
     Announce,
     Produce,
@@ -20,13 +21,14 @@ pub enum Function {
 
 impl Function {
     /// All of them, in the order of the table.
-    pub const ALL: [Function; 11] = [
+    pub const ALL: [Function; 12] = [
         Function::BlockOf,
         Function::NumberOf,
         Function::Read,
         Function::Write,
         Function::Start,
         Function::Receive,
+        Function::Why,
         Function::Initialise,
         Function::Announce,
         Function::Produce,
@@ -43,6 +45,7 @@ impl Function {
             Function::Write => "write",
             Function::Start => "start",
             Function::Receive => "receive",
+            Function::Why => "why",
             Function::Initialise => "initialise",
             Function::Announce => "announce",
             Function::Produce => "produce",
@@ -51,7 +54,7 @@ impl Function {
         }
     }
 
-    /// The refusals that can arise, and 0 for none (01-scope, Refusal numbers, order). Refusal 13 cannot.
+    /// The refusals that can arise, and 0 for none (01-scope, Refusal numbers, order; 02, W1). Refusal 13 cannot.
     pub fn answers(self) -> &'static [u8] {
         match self {
             Function::BlockOf => &[0],
@@ -60,6 +63,7 @@ impl Function {
             Function::Write => &[0, 2, 3, 4, 5, 6],
             Function::Start => &[0, 8],
             Function::Receive => &[0, 1, 2, 3, 4, 5, 7, 8],
+            Function::Why => &[0, 1, 2, 3, 4, 5, 7, 8, 15],
             Function::Initialise => &[0, 3, 6, 7],
             Function::Announce => &[0, 3, 6, 7, 9, 10],
             Function::Produce => &[0, 3, 6, 7, 9, 10, 11, 12],
@@ -74,7 +78,8 @@ impl Function {
             Function::BlockOf | Function::NumberOf => &[Sort::Range],
             Function::Read | Function::Write => &[Sort::Message],
             Function::Start => &[Sort::Box],
-            Function::Receive => &[Sort::Box, Sort::Trial],
+            Function::Receive => &[Sort::Box, Sort::Trial, Sort::Why, Sort::Explain],
+            Function::Why => &[Sort::Box, Sort::Why],
             Function::Initialise
             | Function::Announce
             | Function::Produce

@@ -243,7 +243,7 @@ impl<'a> Maker<'a> {
 }
 
 /// The event of a message that has one and no destination; any other message of that length will do as well.
-fn event_in(arrival: &Arrival) -> Option<u64> {
+pub fn event_in(arrival: &Arrival) -> Option<u64> {
     let field = arrival.bytes.get(8..16)?;
     field.try_into().ok().map(u64::from_be_bytes)
 }

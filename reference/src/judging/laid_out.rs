@@ -3,7 +3,7 @@
 use std::collections::BTreeSet;
 
 use crate::gateway::{self, Line};
-use crate::proved::{Block, Gateway, Head, PLACES};
+use crate::lent_box::{Block, Gateway, Head, PLACES};
 
 use super::histories::Arrival;
 use super::parts::Parts;

@@ -1,12 +1,14 @@
-//! Lists that are too short or too long for the call in place: refused with 7 before all else, and nothing changes.
+//! Lists that are too short or too long for the calls on lent lists: refused with 7 before all else, and nothing changes.
 
 use std::fmt::{self, Debug, Formatter};
 
-use crate::proved::{self, Gateway, Head, LentAnswer, Lists, PLACES};
+use crate::lent_box::{Gateway, LentAnswer, Lists, PLACES};
 use crate::refusal;
 
+use super::boxes::Calls;
 use super::functions::Function;
 use super::histories::Arrival;
+use super::questions::{reason_of, Question};
 use super::random::Dice;
 use super::rows::{Row, LENGTH_COUNT};
 use super::witness::Witness;
@@ -27,32 +29,76 @@ struct Owned {
 
 /// What the call answers, and the lists after it.
 #[derive(PartialEq, Debug)]
-struct Answer {
-    answer: LentAnswer,
+struct Answer<T> {
+    answer: T,
     lists: Owned,
 }
 
-/// Puts a message to the call in place with one list, or all four, of another length.
-pub fn judge(dice: &mut Dice, witness: &mut Witness, gateway: &Gateway, arrival: &Arrival) {
+/// Puts a message, and a question beside it, to the calls on lent lists with one list, or all four, of another length.
+pub fn judge(
+    dice: &mut Dice,
+    witness: &mut Witness,
+    calls: &impl Calls,
+    gateway: &Gateway,
+    arrival: &Arrival,
+) {
     let way = dice.between(0, LENGTH_COUNT - 1);
     let lengths = lengths_of(dice, way);
     witness.column.saw(Row::ListLength(way));
+    judge_receive(witness, calls, gateway, lengths, arrival);
+    let question = Question {
+        arrival: arrival.clone(),
+        asked: dice.below(9) as u8,
+    };
+    judge_why(witness, calls, gateway, lengths, &question);
+}
+
+/// The message alone.
+fn judge_receive(
+    witness: &mut Witness,
+    calls: &impl Calls,
+    gateway: &Gateway,
+    lengths: [usize; 4],
+    arrival: &Arrival,
+) {
+    let head = gateway.head;
+    let theirs = Answer {
+        answer: LentAnswer {
+            refusal: refusal::BOUNDS,
+            sent: 0,
+            marks: head.marks,
+            count: head.count,
+        },
+        lists: Owned::of(gateway),
+    };
+    let ours = Owned::of(gateway).lend(lengths, |lists| {
+        calls.receive_lists(head, lists, arrival.port, &arrival.bytes)
+    });
     witness
         .column
         .saw_answer(Function::Receive, refusal::BOUNDS);
-    let lists = Owned::of(gateway);
-    let expected = LentAnswer {
-        refusal: refusal::BOUNDS,
-        sent: 0,
-        marks: gateway.head.marks,
-        count: gateway.head.count,
-    };
-    let ours = lists.clone().receive(gateway.head, lengths, arrival);
-    let theirs = Answer {
-        answer: expected,
-        lists,
-    };
     let asked = || arrival.put(&format!("in place with lists of {lengths:?}"));
+    witness.compare(asked, &ours, &theirs);
+}
+
+/// The question alone.
+fn judge_why(
+    witness: &mut Witness,
+    calls: &impl Calls,
+    gateway: &Gateway,
+    lengths: [usize; 4],
+    question: &Question,
+) {
+    let Question { arrival, asked } = question;
+    let theirs = Answer {
+        answer: reason_of(Err(refusal::BOUNDS)),
+        lists: Owned::of(gateway),
+    };
+    let ours = Owned::of(gateway).lend(lengths, |lists| {
+        calls.why(gateway.head, lists, arrival.port, *asked, &arrival.bytes)
+    });
+    witness.column.saw_answer(Function::Why, refusal::BOUNDS);
+    let asked = || question.put(&format!("with lists of {lengths:?}"));
     witness.compare(asked, &ours, &theirs);
 }
 
@@ -80,17 +126,17 @@ impl Owned {
         }
     }
 
-    /// Lends so much of the lists for one message.
-    fn receive(mut self, head: Head, lengths: [usize; 4], arrival: &Arrival) -> Answer {
+    /// Lends so much of the lists for one call.
+    fn lend<T>(mut self, lengths: [usize; 4], call: impl FnOnce(Lists) -> T) -> Answer<T> {
         let [nodes, starts, ports, sizes] = lengths;
-        let lent = Lists {
+        let answer = call(Lists {
             nodes: &mut self.nodes[..nodes],
             starts: &mut self.starts[..starts],
             ports: &mut self.ports[..ports],
             sizes: &mut self.sizes[..sizes],
-        };
+        });
         Answer {
-            answer: proved::receive_lists(head, lent, arrival.port, &arrival.bytes),
+            answer,
             lists: self,
         }
     }

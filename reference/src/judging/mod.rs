@@ -5,12 +5,13 @@
 pub mod archive;
 #[cfg(feature = "proved")]
 mod archive_boards;
+#[cfg(feature = "proved")]
+mod archive_boxes;
 pub mod board_calls;
 pub mod board_files;
 #[cfg(feature = "proved")]
 mod boards;
-#[cfg(feature = "proved")]
-mod boxes;
+pub mod boxes;
 pub mod calls;
 pub mod children;
 pub mod command;
@@ -18,16 +19,15 @@ pub mod counts;
 pub mod functions;
 pub mod histories;
 pub mod laid_boards;
-#[cfg(feature = "proved")]
-mod laid_out;
-#[cfg(feature = "proved")]
-mod lengths;
+pub mod laid_out;
+pub mod lengths;
 #[cfg(feature = "proved")]
 mod messages;
 pub mod observed;
 pub mod output;
 pub mod parts;
 pub mod programs;
+pub mod questions;
 pub mod random;
 #[cfg(feature = "proved")]
 mod ranges;
@@ -36,6 +36,8 @@ pub mod rows;
 pub mod sort;
 #[cfg(test)]
 mod stand_in;
+#[cfg(test)]
+mod stand_in_box;
 pub mod texts;
 pub mod trial_files;
 #[cfg(feature = "proved")]

@@ -3,7 +3,9 @@
 use std::process::ExitCode;
 
 use crate::board::board_text;
+use crate::explain::explain_text;
 use crate::trial::trial_text;
+use crate::why_text::why_text;
 
 use super::children::{at_once, Printed, Program};
 use super::command::{self, Amounts, Judge, Options};
@@ -17,7 +19,7 @@ use super::{board_files, observed, trial_files, verdict};
 /// The judge of the programs.
 const JUDGE: Judge = Judge {
     name: "./judge --programs",
-    sorts: &[Sort::Trial, Sort::Board],
+    sorts: &Sort::OF_PROGRAMS,
     amounts: Amounts {
         files: 1_000,
         small: 0,
@@ -36,7 +38,7 @@ struct Reader {
 }
 
 /// The programs that read a file.
-const READERS: [Reader; 2] = [
+const READERS: [Reader; 4] = [
     Reader {
         sort: Sort::Trial,
         name: "trial",
@@ -51,10 +53,24 @@ const READERS: [Reader; 2] = [
         text: board_text,
         observe: observed::board_file,
     },
+    Reader {
+        sort: Sort::Why,
+        name: "why",
+        any_file: trial_files::any_file_to_ask,
+        text: why_text,
+        observe: observed::why_file,
+    },
+    Reader {
+        sort: Sort::Explain,
+        name: "explain",
+        any_file: trial_files::any_file_to_ask,
+        text: explain_text,
+        observe: observed::explain_file,
+    },
 ];
 
 impl Reader {
-    /// The file of one input, the one that the archive's judge makes too.
+    /// The file of one input; of the sorts that the archive's judge has too, the one that it makes.
     fn file(&self, seed: u64, index: u64) -> Vec<u8> {
         (self.any_file)(&mut Dice::of_input(seed, self.sort as u64, index))
     }

@@ -21,6 +21,14 @@ const BOARDS: [(&str, usize, usize); 5] = [
     ("boards of 65 slots", 65, 65),
     ("boards of more slots", 66, usize::MAX),
 ];
+/// The reasons, by their number less one.
+const REASONS: [&str; 5] = [
+    "why: the arrival port",
+    "why: an automatic event",
+    "why: an open port",
+    "why: a line holds it",
+    "why: nothing holds it",
+];
 /// The messages that a board writes.
 const WRITTEN: [u16; 8] = [
     0x0100, 0x05B4, 0x0544, 0x0545, 0x0547, 0x04C4, 0x04C5, 0x04C7,
@@ -95,6 +103,12 @@ pub enum Row {
     SentToAllOthers,
     TableFilled,
     PortOpened,
+    /// Why a report is sent or not, the reason by its number.
+    Reason(u8),
+    HeldByOneEvent,
+    HeldByRange,
+    HeldInTheLastPlace,
+    HeldOnceMore,
     Block(usize),
     Board(usize),
     Matched,
@@ -105,6 +119,8 @@ pub enum Row {
     NotYetInitialized,
     Wrote(u16),
     BadFile,
+    NoEntries,
+    NoReport,
     TextInParts,
     WrittenBack,
     BoxWay(usize),
@@ -124,13 +140,17 @@ impl Row {
         }
         rows.extend([Row::TooManyReplies, Row::SentToNone, Row::SentToSome]);
         rows.extend([Row::SentToAllOthers, Row::TableFilled, Row::PortOpened]);
+        rows.extend((1..=REASONS.len() as u8).map(Row::Reason));
+        rows.extend([Row::HeldByOneEvent, Row::HeldByRange]);
+        rows.extend([Row::HeldInTheLastPlace, Row::HeldOnceMore]);
         rows.extend((0..SIZES.len()).map(Row::Block));
         rows.extend((0..BOARDS.len()).map(Row::Board));
         rows.extend([Row::Matched, Row::OneReply, Row::SeveralReplies]);
         rows.extend([Row::LongestReplies, Row::NothingToDo]);
         rows.extend([Row::NotYetInitialized]);
         rows.extend(WRITTEN.map(Row::Wrote));
-        rows.extend([Row::BadFile, Row::TextInParts, Row::WrittenBack]);
+        rows.extend([Row::BadFile, Row::NoEntries, Row::NoReport]);
+        rows.extend([Row::TextInParts, Row::WrittenBack]);
         rows.extend((0..BOX_WAY_COUNT).map(Row::BoxWay));
         rows.extend((0..LENGTH_COUNT).map(Row::ListLength));
         rows.extend([Row::OnSlotRecords, Row::OnLists]);
@@ -168,6 +188,7 @@ impl Row {
                 return format!("{}: refused {refusal}", function.name())
             }
             Row::Wrote(mti) => return format!("board wrote {mti:04X}"),
+            Row::Reason(number) => REASONS[usize::from(number) - 1],
             Row::Block(class) => SIZES[class].0,
             Row::Board(class) => BOARDS[class].0,
             Row::BoxWay(way) => BOX_WAYS[way],
@@ -181,6 +202,10 @@ impl Row {
             Row::SentToAllOthers => "sent to all other ports",
             Row::TableFilled => "tables filled to 256 lines",
             Row::PortOpened => "ports opened",
+            Row::HeldByOneEvent => "why: a line of one event",
+            Row::HeldByRange => "why: a line of a range",
+            Row::HeldInTheLastPlace => "why: the last line of a full table",
+            Row::HeldOnceMore => "why: a later line holds it too",
             Row::Matched => "hear: slots matched",
             Row::OneReply => "hear: one reply",
             Row::SeveralReplies => "hear: several replies",
@@ -188,6 +213,8 @@ impl Row {
             Row::NothingToDo => "hear: no match and no reply",
             Row::NotYetInitialized => "hear: while not Initialized",
             Row::BadFile => "bad files",
+            Row::NoEntries => "files without entries",
+            Row::NoReport => "files without an accepted report",
             Row::TextInParts => "texts asked for in part",
             Row::WrittenBack => "read and written back",
             Row::OnSlotRecords => "calls on slot records",
@@ -201,7 +228,7 @@ impl Row {
         match self {
             Row::Inputs | Row::Comparisons => &Sort::ALL,
             // A box that was started, as a trial's is, never is out of bounds.
-            Row::Answer(Function::Receive, crate::refusal::BOUNDS) => &[Sort::Box],
+            Row::Answer(Function::Receive | Function::Why, crate::refusal::BOUNDS) => &[Sort::Box],
             Row::Answer(function, refusal) if function.answers().contains(&refusal) => {
                 function.sorts()
             }
@@ -210,10 +237,21 @@ impl Row {
             | Row::SentToSome
             | Row::SentToAllOthers
             | Row::TableFilled
-            | Row::PortOpened => &[Sort::Box, Sort::Trial],
+            | Row::PortOpened => &[Sort::Box, Sort::Trial, Sort::Why, Sort::Explain],
+            Row::Reason(_)
+            | Row::HeldByOneEvent
+            | Row::HeldByRange
+            | Row::HeldInTheLastPlace
+            | Row::HeldOnceMore => &[Sort::Box, Sort::Why, Sort::Explain],
             // No range number is of a single event.
-            Row::Block(0) => &[Sort::Box, Sort::Trial],
-            Row::Block(_) => &[Sort::Range, Sort::Box, Sort::Trial],
+            Row::Block(0) => &[Sort::Box, Sort::Trial, Sort::Why, Sort::Explain],
+            Row::Block(_) => &[
+                Sort::Range,
+                Sort::Box,
+                Sort::Trial,
+                Sort::Why,
+                Sort::Explain,
+            ],
             Row::Board(_)
             | Row::Matched
             | Row::OneReply
@@ -223,7 +261,10 @@ impl Row {
             | Row::NotYetInitialized => &[Sort::Board, Sort::Calls],
             Row::Wrote(mti) if WRITTEN.contains(&mti) => &[Sort::Board, Sort::Calls],
             Row::Wrote(_) => &[],
-            Row::BadFile | Row::TextInParts => &[Sort::Trial, Sort::Board],
+            Row::BadFile => &[Sort::Trial, Sort::Board, Sort::Why, Sort::Explain],
+            Row::NoEntries => &[Sort::Why, Sort::Explain],
+            Row::NoReport => &[Sort::Explain],
+            Row::TextInParts => &[Sort::Trial, Sort::Board],
             Row::WrittenBack => &[Sort::Message],
             Row::BoxWay(_) | Row::ListLength(_) => &[Sort::Box],
             Row::OnSlotRecords | Row::OnLists | Row::BoardWay(_) => &[Sort::Calls],

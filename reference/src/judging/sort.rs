@@ -9,11 +9,27 @@ pub enum Sort {
     Trial,
     Board,
     Calls,
+    /// Trial files of the program `why`.
+    Why,
+    /// Trial files of the program `explain`.
+    Explain,
 }
 
 impl Sort {
     /// All sorts, in the order in which they are run.
-    pub const ALL: [Sort; 6] = [
+    pub const ALL: [Sort; 8] = [
+        Sort::Range,
+        Sort::Message,
+        Sort::Box,
+        Sort::Trial,
+        Sort::Board,
+        Sort::Calls,
+        Sort::Why,
+        Sort::Explain,
+    ];
+
+    /// Those of the archive, which has no call for the texts of `why` and `explain`.
+    pub const OF_ARCHIVE: [Sort; 6] = [
         Sort::Range,
         Sort::Message,
         Sort::Box,
@@ -21,6 +37,8 @@ impl Sort {
         Sort::Board,
         Sort::Calls,
     ];
+    /// Those of the programs.
+    pub const OF_PROGRAMS: [Sort; 4] = [Sort::Trial, Sort::Board, Sort::Why, Sort::Explain];
 
     /// The name on the command line.
     pub fn name(self) -> &'static str {
@@ -31,6 +49,8 @@ impl Sort {
             Sort::Trial => "trial",
             Sort::Board => "board",
             Sort::Calls => "calls",
+            Sort::Why => "why",
+            Sort::Explain => "explain",
         }
     }
 

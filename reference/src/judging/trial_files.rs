@@ -1,9 +1,11 @@
-//! Makes trial files: mostly histories of the trial's box, and files at the limits or damaged.
+//! Makes trial files: mostly histories of the trial's box, and files at the limits or damaged; and such as end in an entry to ask about.
 
-use crate::trial::{self, MOST_BYTES, MOST_ENTRIES, PORTS};
+use crate::gateway::{Gateway, MOST_LINES};
+use crate::trial::{self, HOUSE_NUMBER, MOST_BYTES, MOST_ENTRIES, PORTS};
 
 use super::histories::{any_history, long_history, Arrival};
 use super::parts::{change_a_byte, damage_bytes};
+use super::questions::{Blocks, Question};
 use super::random::Dice;
 use super::world::Area;
 
@@ -30,6 +32,48 @@ pub fn any_file(dice: &mut Dice) -> Vec<u8> {
         4 => nearly_nothing(dice),
         _ => damaged_file(dice),
     }
+}
+
+/// A file whose last entry is mostly a report of what the table holds by then, or else any file.
+pub fn any_file_to_ask(dice: &mut Dice) -> Vec<u8> {
+    let mut arrivals = match dice.weighted(&[20, 2, 38, 40]) {
+        0 => return any_file(dice),
+        1 => return file_of(&[]),
+        2 => history(dice),
+        _ => filled(dice),
+    };
+    let gateway = after(&arrivals);
+    let blocks = Blocks {
+        lines: &gateway.lines,
+        automatic: gateway.automatic,
+    };
+    let before = dice.between(0, arrivals.len() - 1);
+    let question = Question::any(dice, PORTS as u8, &blocks, &arrivals[before]);
+    arrivals.push(question.arrival);
+    file_of(&arrivals)
+}
+
+/// A history that ends where the table is full and no leg is open yet.
+fn filled(dice: &mut Dice) -> Vec<Arrival> {
+    let mut arrivals = long(dice, 320);
+    let (mut gateway, _) = Gateway::start(PORTS, HOUSE_NUMBER);
+    let fills = |arrival: &Arrival| {
+        gateway.receive(arrival.port.into(), &arrival.bytes);
+        gateway.lines.len() == MOST_LINES
+    };
+    if let Some(place) = arrivals.iter().position(fills) {
+        arrivals.truncate(place + 1);
+    }
+    arrivals
+}
+
+/// The trial's box after these messages.
+fn after(arrivals: &[Arrival]) -> Gateway {
+    let (mut gateway, _) = Gateway::start(PORTS, HOUSE_NUMBER);
+    for arrival in arrivals {
+        gateway.receive(arrival.port.into(), &arrival.bytes);
+    }
+    gateway
 }
 
 /// Any history of the trial's box.

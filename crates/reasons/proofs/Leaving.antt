@@ -1,0 +1,47 @@
+-- The state that some entries have left, one entry later, and the last entry, which is asked.
+use Prim.Native.Nat.{ℕ, _+_, _-_}
+use mathlib.Core.Path.{_≡_, sym, ap, ap₂, _∙_}
+use mathlib.Core.List.{List}
+use native.Mathlib.Numerals.{add-one}
+use native.Mathlib.Omega.{arith}
+use lib.ListN.{length, take, drop}
+use Rattle.range.specs.Range.{house}
+use Rattle.gateway_rules.specs.State.{Gate}
+use Rattle.gateway_rules.specs.Step.{start, step}
+use Rattle.gateway.specs.State.{gateOf}
+use Rattle.gateway.specs.declared.Answer.{Answer}
+use Rattle.gateway.specs.Answers.{Seen, seenIn, seenOf}
+use Rattle.replay.specs.Files.{entryCount, portIn, lengthIn, bodyAt, bodyIn}
+use Rattle.replay.specs.Lines.{ports}
+use Rattle.replay.proofs.Good.{Good, body-next, body-part}
+use Rattle.replay.proofs.Walk.{started}
+use Rattle.reasons.specs.Lines.{leftAfter, answerOf, lastOf}
+
+pub left-none : (s : List ℕ) (a : Answer) → seenIn a ≡ seenOf (start ports house) → gateOf (a .gateway) ≡ leftAfter 0 s
+unfolding leftAfter
+left-none s a e = started a e
+
+pub left-next : (s : List ℕ) (i : ℕ) {g : Gate} {bytes : List ℕ} (a : Answer) → g ≡ leftAfter i s → bytes ≡ bodyIn s i
+    → seenIn a ≡ seenOf (step g (portIn s i) bytes) → gateOf (a .gateway) ≡ leftAfter (i + 1) s
+unfolding leftAfter
+left-next s i a e b h =
+    ap (λ (x : Seen). x .gate) h
+    ∙ ap₂ (λ (x : Gate) (l : List ℕ). step x (portIn s i) l .next) e b
+    ∙ ap (λ (n : ℕ). leftAfter n s) (sym (add-one i))
+
+-- ---- the last entry
+
+module _ (s : List ℕ) (last : ℕ) (is-last : last + 1 ≡ entryCount s) where
+  pub last-lines : answerOf (leftAfter last s) (portIn s last) (bodyIn s last) ≡ lastOf (entryCount s) s
+  unfolding lastOf
+  last-lines = ap (λ (n : ℕ). lastOf n s) (sym (add-one last) ∙ is-last)
+
+  -- Its body ends where the file does.
+  pub last-size : Good s → bodyAt s last + lengthIn s last ≡ length s
+  last-size good = sym (body-next s last) ∙ ap (bodyAt s) is-last ∙ good .total
+
+  pub last-body : Good s → {size : ℕ} → size ≡ lengthIn s last → take (length s - (length s - size)) (drop (length s - size) s) ≡ bodyIn s last
+  last-body good {size} e =
+      let here : length s - size ≡ bodyAt s last = omega (arith, last-size good, e) in
+      let whole : length s - (length s - size) ≡ length s - size + size - (length s - size) = omega (arith, last-size good, e) in
+      ap (λ (n : ℕ). take n (drop (length s - size) s)) whole ∙ body-part s last here e

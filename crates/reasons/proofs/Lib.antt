@@ -1,0 +1,4 @@
+mod Asked
+mod Leaving
+pub mod Longest
+mod Texts
