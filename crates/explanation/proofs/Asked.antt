@@ -5,7 +5,7 @@ use mathlib.Core.Logic.{_⊎_, ⊎-elim}
 use mathlib.Core.Bool.{Bool, true, false, cond, _||_, false≢true}
 use mathlib.Core.List.{List, [], _∷_}
 use native.Mathlib.Omega.{arith}
-use borrow.Author.Tests.{eq-eqb, eqb-true}
+use borrow.Author.Tests.{eqb-true}
 use lib.Dec.{eqb}
 use Rattle.numbers.specs.Numbers.{numberAt}
 use Rattle.basics.specs.Lists.{firstOr}
@@ -30,6 +30,7 @@ use Rattle.gateway.specs.declared.state.Head.{Head}
 use Rattle.gateway.specs.declared.asking.WhyAnswer.{WhyAnswer}
 use Rattle.gateway.specs.declared.asking.WhyAnswer.the-variants.{Because, Refused}
 use Rattle.gateway.specs.Asking.{answerTold, lentWhy}
+use Rattle.gateway.proofs.Lending.{whole-why}
 use Rattle.replay.specs.Lines.{ports}
 use Rattle.explanation.specs.Words.{legLines, refusedLine, eventIn, entryLines, acceptedReport}
 
@@ -137,16 +138,12 @@ module _ (head : Head) (t : Lists) (q leg : ℕ) (bytes : List ℕ) (whole : Who
   unfolding gateIn
   there = omega (arith, four, h)
 
-  -- Lists of 256 places are asked themselves.
-  whole-why : lentWhy head t q leg bytes ≡ whyTold (gateIn head t) q leg bytes
-  whole-why = rw (eq-eqb _ 256 (whole .0), eq-eqb _ 256 (whole .1), eq-eqb _ 256 (whole .2), eq-eqb _ 256 (whole .3))
-
   pub asked-event : {e : ℕ} → e ≡ numberAt bytes 8 8 → acceptedReport (gateIn head t) q bytes ≡ true → e ≡ eventIn bytes
   asked-event = event-there (gateIn head t) q bytes leg there
 
   module _ (a : WhyAnswer) (told : answerTold a ≡ lentWhy head t q leg bytes) where
     answer : answerTold a ≡ whyTold (gateIn head t) q leg bytes
-    answer = told ∙ whole-why
+    answer = told ∙ whole-why head t q bytes leg whole
 
     pub asked-reason : {r : Reason} → a ≡ Because r → acceptedReport (gateIn head t) q bytes ≡ true → r ≡ reasonFor (gateIn head t) q (eventIn bytes) leg
     asked-reason e f = same (sym e ∙ leg-reason (gateIn head t) q bytes leg there a answer f)

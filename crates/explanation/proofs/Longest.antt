@@ -1,6 +1,6 @@
 -- How long a file's text can be, over every file.
 use Prim.Native.Nat.{ℕ, zero, suc, _+_, _-_, _*_, _≤_, _<_}
-use mathlib.Core.Path.{_≡_, refl, ap, _∙_}
+use mathlib.Core.Path.{_≡_, refl, ap}
 use mathlib.Core.Bool.{Bool, true, false, cond, _||_}
 use mathlib.Core.List.{List, [], _∷_, _++_}
 use native.Mathlib.Omega.{arith}
@@ -12,9 +12,8 @@ use Rattle.basics.specs.Lists.{firstOr}
 use Rattle.basics.specs.Refusals.{answered}
 use Rattle.range.specs.declared.Block.{Block}
 use Rattle.range.specs.Range.{last, house}
-use Rattle.text.specs.Text.{decimal, ascii, badFile}
+use Rattle.text.specs.Text.{ascii, badFile}
 use Rattle.text.proofs.Lengths.{decimal-length, hex-length}
-use Rattle.gateway_rules.specs.declared.Line.{Line}
 use Rattle.gateway_rules.specs.declared.Holder.{Holder}
 use Rattle.gateway_rules.specs.declared.Reason.{Reason}
 use Rattle.gateway_rules.specs.declared.Reason.the-variants.{ArrivalPort, AutomaticEvent, OpenPort, HeldBy, NothingHolds}
@@ -26,7 +25,7 @@ use Rattle.gateway_rules.proofs.Reasons.{line-named}
 use Rattle.replay.specs.Files.{entryCount, portIn, bodyIn, goodFile}
 use Rattle.replay.specs.Lines.{ports, stepAt}
 use Rattle.replay.proofs.Good.{good-file}
-use Rattle.explanation.specs.Words.{eventText, nodeText, blockText, holderText, reasonText, legLine, legLines, refusedLine, entryLines, acceptedReport, noReport, linesFrom, textOf, longestLine, longest}
+use Rattle.explanation.specs.Words.{eventText, nodeText, blockText, holderText, reasonText, legLine, legLines, refusedLine, entryLines, acceptedReport, linesFrom, textOf, longestLine, longest}
 
 -- ---- a leg's line
 

@@ -6,11 +6,6 @@ use borrow.Author.Needs.{needs}
 use Rattle.explanation.proofs.Texts.{text-bad, text-good}
 use Rattle.explanation.proofs.explain.Statement.{statement}
 use Rattle.explanation.proofs.explain.Tie as tie
-use Rattle.explanation.proofs.explain.Reads as reads
-use Rattle.explanation.proofs.explain.Lts as lts
-use Rattle.explanation.proofs.entries.run.Reads as run-reads
-use Rattle.replay.proofs.good_file.Reads as good-file-reads
-use Rattle.text.proofs.put.Reads as put-reads
 
 good-file-requires : tie.Need-good-file-requires
 good-file-requires c κs = search needs

@@ -4,9 +4,6 @@ use Rattle.text.proofs.Parts.{part-put}
 use Rattle.explanation.specs.Words.{textOf}
 use Rattle.explanation.proofs.part.Statement.{statement}
 use Rattle.explanation.proofs.part.Tie as tie
-use Rattle.explanation.proofs.part.Reads as reads
-use Rattle.explanation.proofs.part.Lts as lts
-use Rattle.explanation.proofs.explain.Reads as explain-reads
 
 explain-requires : tie.Need-explain-requires
 explain-requires c κs = search needs

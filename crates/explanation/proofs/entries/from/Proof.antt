@@ -5,21 +5,15 @@ use native.Mathlib.Omega.{arith}
 use borrow.Author.Needs.{needs}
 use lib.ListN.{length}
 use Rattle.text.proofs.Laws.{filled-length}
+use Rattle.replay.specs.Lines.{ports as legCount}
 use Rattle.gateway.specs.State.{lists, listsOf, gateIn, gateOf, Whole}
 use Rattle.gateway.specs.Answers.{seenOf}
 use Rattle.gateway.proofs.Lending.{whole-step}
-use Rattle.replay.specs.Lines.{ports as legCount}
 use Rattle.replay.proofs.Good.{good-file}
 use Rattle.replay.proofs.Walk.{entry-within}
 use Rattle.explanation.proofs.Running.{Running, running-start, running-next, running-end}
 use Rattle.explanation.proofs.entries.from.Statement.{statement}
 use Rattle.explanation.proofs.entries.from.Tie as tie
-use Rattle.explanation.proofs.entries.from.Reads as reads
-use Rattle.explanation.proofs.entries.from.Lts as lts
-use Rattle.explanation.proofs.legs.put.Reads as put-reads
-use Rattle.explanation.proofs.legs.put_end.Reads as put-end-reads
-use Rattle.gateway.proofs.receive_lent.Reads as receive-lent-reads
-use Rattle.numbers.proofs.read_at.Reads as read-at-reads
 
 abbrev Inv-loop : tie.InvT-loop
 Inv-loop file text₀ head₀ nodes₀ starts₀ ports₀ sizes₀ told₀ count at₀ i₀ text head nodes starts ports sizes told at i =

@@ -10,10 +10,6 @@ use Rattle.explanation.specs.Words.{linesFrom}
 use Rattle.explanation.proofs.Texts.{started-ports}
 use Rattle.explanation.proofs.entries.run.Statement.{statement}
 use Rattle.explanation.proofs.entries.run.Tie as tie
-use Rattle.explanation.proofs.entries.run.Reads as reads
-use Rattle.explanation.proofs.entries.run.Lts as lts
-use Rattle.explanation.proofs.entries.from.Reads as from-reads
-use Rattle.gateway.proofs.start.Reads as start-reads
 
 start-requires : tie.Need-start-requires
 start-requires c κs = search needs

@@ -8,11 +8,6 @@ use Rattle.explanation.proofs.Asked.{report-lines, asked-report, asked-
 use Rattle.explanation.proofs.Running.{nothing-put, same-lines}
 use Rattle.explanation.proofs.legs.put.Statement.{statement}
 use Rattle.explanation.proofs.legs.put.Tie as tie
-use Rattle.explanation.proofs.legs.put.Reads as reads
-use Rattle.explanation.proofs.legs.put.Lts as lts
-use Rattle.explanation.proofs.legs.put_legs.Reads as put-legs-reads
-use Rattle.explanation.proofs.lines.put_refusal.Reads as put-refusal-reads
-use Rattle.gateway.proofs.why.Reads as why-reads
 
 why-requires : tie.Need-why-requires
 why-requires c κs = search needs
@@ -25,28 +20,31 @@ enum-told c = search needs
 
 put-legs-requires : tie.Need-put-legs-requires
 put-legs-requires c κs =
-    let a = c .before .before .before .before .before .before .before .before .before .before .before .args in
+    let s = c .before .before .before .before .before .before .before .before .before .before .before in
+    let a = s .args in
     let t = lists (a .nodes .now) (a .starts .now) (a .ports .now) (a .sizes .now) in
-    ((c .before .before .before .before .before .before .before .before .before .before .before .pre .0, c .before .before .before .before .before .before .before .before .before .before .before .pre .1, c .before .before .before .before .before .before .before .before .before .before .before .pre .2), asked-report (a .head) t (a .port) 0 (a .bytes .now) (c .before .before .before .before .before .before .before .before .before .before .before .pre .0) (c .before .before .before .before .before .before .before .before .before .before .before .pre .1) (omega arith) (c .before .before .before .why .result) (c .before .before .before .why .ensures) (c .before .enum-told .given .1))
+    ((s .pre .0, s .pre .1, s .pre .2), asked-report (a .head) t (a .port) 0 (a .bytes .now) (s .pre .0) (s .pre .1) (omega arith) (c .before .before .before .why .result) (c .before .before .before .why .ensures) (c .before .enum-told .given .1))
 
 same-length : tie.Need-same-length
 same-length c = search needs
 
 returns : tie.Need-returns
 returns c =
-    let a = c .before .before .before .before .before .before .before .before .before .before .before .before .before .before .args in
+    let s = c .before .before .before .before .before .before .before .before .before .before .before .before .before .before in
+    let a = s .args in
     let t = lists (a .nodes .now) (a .starts .now) (a .ports .now) (a .sizes .now) in
-    let r = asked-report (a .head) t (a .port) 0 (a .bytes .now) (c .before .before .before .before .before .before .before .before .before .before .before .before .before .before .pre .0) (c .before .before .before .before .before .before .before .before .before .before .before .before .before .before .pre .1) (omega arith) (c .before .before .before .before .before .before .why .result) (c .before .before .before .before .before .before .why .ensures) (c .before .before .before .before .enum-told .given .1) in
-    let s = same-lines (a .before .place) (a .text .now) (report-lines (gateIn (a .head) t) (a .port) (a .bytes .now) (a .i) r) (c .before .before .put-legs .ensures) in
-    (s .0, (s .1, sym (ap (λ (b : Bool). a .before .reported || b) r ∙ or-true (a .before .reported))))
+    let r = asked-report (a .head) t (a .port) 0 (a .bytes .now) (s .pre .0) (s .pre .1) (omega arith) (c .before .before .before .before .before .before .why .result) (c .before .before .before .before .before .before .why .ensures) (c .before .before .before .before .enum-told .given .1) in
+    let told = same-lines (a .before .place) (a .text .now) (report-lines (gateIn (a .head) t) (a .port) (a .bytes .now) (a .i) r) (c .before .before .put-legs .ensures) in
+    (told .0, (told .1, sym (ap (λ (b : Bool). a .before .reported || b) r ∙ or-true (a .before .reported))))
 
 returns-2 : tie.Need-returns-2
 returns-2 c =
-    let a = c .before .before .before .before .before .before .before .before .before .before .before .before .args in
+    let s = c .before .before .before .before .before .before .before .before .before .before .before .before in
+    let a = s .args in
     let t = lists (a .nodes .now) (a .starts .now) (a .ports .now) (a .sizes .now) in
-    let f = asked-refuses (a .head) t (a .port) 0 (a .bytes .now) (c .before .before .before .before .before .before .before .before .before .before .before .before .pre .0) (c .before .before .before .before .before .before .before .before .before .before .before .before .pre .1) (omega arith) (c .before .before .before .before .why .result) (c .before .before .before .before .why .ensures) (a .i) (c .before .before .n .given .1) in
-    let s = same-lines (a .before .place) (a .text .now) (f .other (c .if1 .taken)) (nothing-put (a .before .place) (a .text .now) (c .before .before .before .before .before .before .before .before .before .before .before .before .pre .2)) in
-    (s .0, (s .1, sym (ap (λ (b : Bool). a .before .reported || b) (f .no-report) ∙ or-false (a .before .reported))))
+    let f = asked-refuses (a .head) t (a .port) 0 (a .bytes .now) (s .pre .0) (s .pre .1) (omega arith) (c .before .before .before .before .why .result) (c .before .before .before .before .why .ensures) (a .i) (c .before .before .n .given .1) in
+    let told = same-lines (a .before .place) (a .text .now) (f .other (c .if1 .taken)) (nothing-put (a .before .place) (a .text .now) (s .pre .2)) in
+    (told .0, (told .1, sym (ap (λ (b : Bool). a .before .reported || b) (f .no-report) ∙ or-false (a .before .reported))))
 
 put-refusal-requires : tie.Need-put-refusal-requires
 put-refusal-requires c κs = search needs
@@ -56,11 +54,12 @@ same-length-2 c = search needs
 
 returns-3 : tie.Need-returns-3
 returns-3 c =
-    let a = c .before .before .before .before .before .before .before .before .before .before .before .before .before .before .before .before .args in
+    let s = c .before .before .before .before .before .before .before .before .before .before .before .before .before .before .before .before in
+    let a = s .args in
     let t = lists (a .nodes .now) (a .starts .now) (a .ports .now) (a .sizes .now) in
-    let f = asked-refuses (a .head) t (a .port) 0 (a .bytes .now) (c .before .before .before .before .before .before .before .before .before .before .before .before .before .before .before .before .pre .0) (c .before .before .before .before .before .before .before .before .before .before .before .before .before .before .before .before .pre .1) (omega arith) (c .before .before .before .before .before .before .before .before .why .result) (c .before .before .before .before .before .before .before .before .why .ensures) (a .i) (c .before .before .before .before .before .before .n .given .1) in
-    let s = same-lines (a .before .place) (a .text .now) (f .line (c .before .before .before .before .if1 .left)) (c .before .before .put-refusal .ensures) in
-    (s .0, (s .1, sym (ap (λ (b : Bool). a .before .reported || b) (f .no-report) ∙ or-false (a .before .reported))))
+    let f = asked-refuses (a .head) t (a .port) 0 (a .bytes .now) (s .pre .0) (s .pre .1) (omega arith) (c .before .before .before .before .before .before .before .before .why .result) (c .before .before .before .before .before .before .before .before .why .ensures) (a .i) (c .before .before .before .before .before .before .n .given .1) in
+    let told = same-lines (a .before .place) (a .text .now) (f .line (c .before .before .before .before .if1 .left)) (c .before .before .put-refusal .ensures) in
+    (told .0, (told .1, sym (ap (λ (b : Bool). a .before .reported || b) (f .no-report) ∙ or-false (a .before .reported))))
 
 pub put-spec : {M : Type 1} → statement M
 put-spec =

@@ -4,9 +4,6 @@ use borrow.Author.Needs.{needs}
 use Rattle.explanation.proofs.Running.{nothing-put}
 use Rattle.explanation.proofs.legs.put_end.Statement.{statement}
 use Rattle.explanation.proofs.legs.put_end.Tie as tie
-use Rattle.explanation.proofs.legs.put_end.Reads as reads
-use Rattle.explanation.proofs.legs.put_end.Lts as lts
-use Rattle.text.proofs.put.Reads as put-reads
 
 returns : tie.Need-returns
 returns c = rw (c .if1 .taken) (nothing-put (c .before .before .before .args .told .place) (c .before .before .before .args .text .now) (omega arith))

@@ -7,9 +7,6 @@ use Rattle.range.proofs.Masks.{one-shifted}
 use Rattle.explanation.proofs.Events.{last-wide}
 use Rattle.explanation.proofs.lines.last_of.Statement.{statement}
 use Rattle.explanation.proofs.lines.last_of.Tie as tie
-use Rattle.explanation.proofs.lines.last_of.Reads as reads
-use Rattle.explanation.proofs.lines.last_of.Lts as lts
-use Rattle.std.proofs.num.wrapping_add_u64.Reads as wrapping-add-u64-reads
 
 cast-wrapping-add-u64 : tie.Need-cast-wrapping-add-u64
 cast-wrapping-add-u64 c = search needs

@@ -10,11 +10,6 @@ use Rattle.explanation.specs.Words.{eventText, blockText}
 use Rattle.explanation.proofs.Events.{event-low}
 use Rattle.explanation.proofs.lines.put_block.Statement.{statement}
 use Rattle.explanation.proofs.lines.put_block.Tie as tie
-use Rattle.explanation.proofs.lines.put_block.Reads as reads
-use Rattle.explanation.proofs.lines.put_block.Lts as lts
-use Rattle.explanation.proofs.lines.last_of.Reads as last-of-reads
-use Rattle.explanation.proofs.lines.put_event.Reads as put-event-reads
-use Rattle.text.proofs.put.Reads as put-reads
 
 put-event-requires : tie.Need-put-event-requires
 put-event-requires c κs = search needs

@@ -2,10 +2,6 @@
 use borrow.Author.Needs.{needs}
 use Rattle.explanation.proofs.lines.put_event.Statement.{statement}
 use Rattle.explanation.proofs.lines.put_event.Tie as tie
-use Rattle.explanation.proofs.lines.put_event.Reads as reads
-use Rattle.explanation.proofs.lines.put_event.Lts as lts
-use Rattle.numbers.proofs.write.Reads as write-reads
-use Rattle.text.proofs.put_hex.Reads as put-hex-reads
 
 slice-aggregate-write : tie.Need-slice-aggregate-write
 slice-aggregate-write c = search needs

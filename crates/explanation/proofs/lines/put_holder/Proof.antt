@@ -7,13 +7,6 @@ use Rattle.text.proofs.Laws.{remains-first, remains-next, remains-last, filled-
 use Rattle.explanation.specs.Words.{nodeText, holderText}
 use Rattle.explanation.proofs.lines.put_holder.Statement.{statement}
 use Rattle.explanation.proofs.lines.put_holder.Tie as tie
-use Rattle.explanation.proofs.lines.put_holder.Reads as reads
-use Rattle.explanation.proofs.lines.put_holder.Lts as lts
-use Rattle.explanation.proofs.lines.put_block.Reads as put-block-reads
-use Rattle.numbers.proofs.write.Reads as write-reads
-use Rattle.text.proofs.put.Reads as put-reads
-use Rattle.text.proofs.put_decimal.Reads as put-decimal-reads
-use Rattle.text.proofs.put_hex.Reads as put-hex-reads
 
 slice-aggregate-write : tie.Need-slice-aggregate-write
 slice-aggregate-write c = search needs

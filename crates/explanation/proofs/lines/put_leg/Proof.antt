@@ -1,17 +1,10 @@
 -- The pieces of the line are put in one after the other.
-use mathlib.Core.Path.{ap, _∙_}
-use lib.ListN.{length}
 use borrow.Author.Needs.{needs}
 use Rattle.text.specs.Text.{decimal, ascii}
-use Rattle.text.proofs.Laws.{remains-first, remains-next, remains-last, filled-length}
+use Rattle.text.proofs.Laws.{remains-first, remains-next, remains-last}
 use Rattle.explanation.specs.Words.{reasonText, legLine}
 use Rattle.explanation.proofs.lines.put_leg.Statement.{statement}
 use Rattle.explanation.proofs.lines.put_leg.Tie as tie
-use Rattle.explanation.proofs.lines.put_leg.Reads as reads
-use Rattle.explanation.proofs.lines.put_leg.Lts as lts
-use Rattle.explanation.proofs.lines.put_reason.Reads as put-reason-reads
-use Rattle.text.proofs.put.Reads as put-reads
-use Rattle.text.proofs.put_decimal.Reads as put-decimal-reads
 
 put-decimal-requires : tie.Need-put-decimal-requires
 put-decimal-requires c κs = search needs

@@ -6,11 +6,6 @@ use Rattle.text.proofs.Laws.{remains-first, remains-next, remains-last}
 use Rattle.explanation.specs.Words.{eventText}
 use Rattle.explanation.proofs.lines.put_reason.Statement.{statement}
 use Rattle.explanation.proofs.lines.put_reason.Tie as tie
-use Rattle.explanation.proofs.lines.put_reason.Reads as reads
-use Rattle.explanation.proofs.lines.put_reason.Lts as lts
-use Rattle.explanation.proofs.lines.put_event.Reads as put-event-reads
-use Rattle.explanation.proofs.lines.put_holder.Reads as put-holder-reads
-use Rattle.text.proofs.put.Reads as put-reads
 
 enum-told : tie.Need-enum-told
 enum-told c = search needs

@@ -5,10 +5,6 @@ use Rattle.text.proofs.Laws.{remains-first, remains-next, remains-last}
 use Rattle.explanation.specs.Words.{refusedLine}
 use Rattle.explanation.proofs.lines.put_refusal.Statement.{statement}
 use Rattle.explanation.proofs.lines.put_refusal.Tie as tie
-use Rattle.explanation.proofs.lines.put_refusal.Reads as reads
-use Rattle.explanation.proofs.lines.put_refusal.Lts as lts
-use Rattle.text.proofs.put.Reads as put-reads
-use Rattle.text.proofs.put_decimal.Reads as put-decimal-reads
 
 put-decimal-requires : tie.Need-put-decimal-requires
 put-decimal-requires c κs = search needs
