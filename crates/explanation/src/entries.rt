@@ -1,0 +1,84 @@
+// The entries of a trial file, one after another.
+ghost use mathlib.Core.Path.{_≡_};
+ghost use mathlib.Core.Bool.{true, false};
+ghost use Prim.Native.Nat.{_≤_};
+ghost use lib.ListN.{length};
+ghost use Rattle.range.specs.Range.{house};
+ghost use Rattle.text.specs.Text.{filled, endOf};
+ghost use Rattle.gateway.specs.State.{gateOf};
+ghost use Rattle.gateway_rules.specs.State.{startOf};
+ghost use Rattle.replay.specs.Files.{entryCount, goodFile};
+ghost use Rattle.replay.specs.Lines.{ports};
+ghost use Rattle.explanation.specs.Words.{linesFrom};
+use crate::legs;
+use crate::legs::LEGS;
+use crate::legs::SoFar;
+use gateway::Gateway;
+use range::HOUSE;
+use text::Place;
+
+// Puts the lines of each entry into text.
+pub(crate) fn run(file: &[u8], first: Place, text: &mut [u8]) -> Place
+    requires { ⌜ goodFile (now file) ≡ true ⌝ }
+    requires { ⌜ first .at ≤ length (now text) ⌝ }
+    ensures { λ r. ⌜ r ≡ endOf first (linesFrom (entryCount (now (file .entry))) 0 false (startOf ports house) (now (file .entry))) (now (text .entry)) ⌝ }
+    ensures { λ _. ⌜ now (text .exit) ≡ filled first (linesFrom (entryCount (now (file .entry))) 0 false (startOf ports house) (now (file .entry))) (now (text .entry)) ⌝ }
+{
+    let started = gateway::start(LEGS, HOUSE);
+    let gateway = started.gateway;
+    from(gateway, file, first, text)
+}
+
+// The same from any state with 4 ports. An entry is asked about before the box takes it.
+fn from(gateway: Gateway, file: &[u8], first: Place, text: &mut [u8]) -> Place
+    requires { ⌜ gateway .head .ports ≡ ports ⌝ }
+    requires { ⌜ goodFile (now file) ≡ true ⌝ }
+    requires { ⌜ first .at ≤ length (now text) ⌝ }
+    ensures { λ r. ⌜ r ≡ endOf first (linesFrom (entryCount (now (file .entry))) 0 false (gateOf gateway) (now (file .entry))) (now (text .entry)) ⌝ }
+    ensures { λ _. ⌜ now (text .exit) ≡ filled first (linesFrom (entryCount (now (file .entry))) 0 false (gateOf gateway) (now (file .entry))) (now (text .entry)) ⌝ }
+{
+    let mut head = gateway.head;
+    let mut nodes = gateway.nodes;
+    let mut starts = gateway.starts;
+    let mut ports = gateway.ports;
+    let mut sizes = gateway.sizes;
+    let mut told = SoFar {
+        place: first,
+        reported: false,
+    };
+    let count = numbers::read_at(file, 0, 2) as usize;
+    let mut at = 2 + count * 3;
+    let mut i = 0;
+    while i < count {
+        let entry = 2 + i * 3;
+        let port = file[entry];
+        let length = numbers::read_at(file, entry + 1, 2) as usize;
+        let end = at + length;
+        told = legs::put(
+            i,
+            head,
+            &nodes,
+            &starts,
+            &ports,
+            &sizes,
+            port,
+            &file[at..end],
+            told,
+            text,
+        );
+        let a = gateway::receive_lent(
+            head,
+            &mut nodes,
+            &mut starts,
+            &mut ports,
+            &mut sizes,
+            port,
+            &file[at..end],
+        );
+        head.marks = a.marks;
+        head.count = a.count;
+        at = end;
+        i += 1;
+    }
+    legs::put_end(told, text)
+}
