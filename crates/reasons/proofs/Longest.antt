@@ -10,8 +10,8 @@ use Rattle.text.proofs.Lengths.{decimal-length}
 use Rattle.gateway_rules.specs.State.{Gate}
 use Rattle.gateway_rules.specs.Reasons.{whyTold}
 use Rattle.gateway_rules.proofs.Asking.{why-up-to, reason-up-to}
-use Rattle.replay.specs.Files.{entryCount, portIn, bodyIn, goodFile}
-use Rattle.reasons.specs.Lines.{leftAfter, reasonIn, lineOf, lineFor, portLines, answerOf, lastOf, textOf, longest}
+use Rattle.replay.specs.Files.{entryCount, goodFile}
+use Rattle.reasons.specs.Lines.{reasonIn, lineOf, lineFor, portLines, answerOf, lastOf, textOf, longest}
 
 line-length : (p reason : ℕ) → p ≤ 9 → reason ≤ 9 → length (lineOf p reason) ≤ 4
 unfolding lineOf
@@ -39,7 +39,7 @@ text-length s = go (goodFile s)
   where
     last : (n : ℕ) → length (lastOf n s) ≤ longest
     last zero = omega arith
-    last (suc n) = answer-length (leftAfter n s) (portIn s n) (bodyIn s n)
+    last (suc n) = answer-length _ _ _
 
     go : (t : Bool) → length (cond t (lastOf (entryCount s) s) badFile) ≤ longest
     go true = last (entryCount s)
