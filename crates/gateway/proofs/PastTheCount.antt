@@ -2,15 +2,18 @@
 use Prim.Native.Nat.{ℕ}
 use mathlib.Core.Path.{_≡_, ap, _∙_}
 use mathlib.Core.Bool.{cond}
-use mathlib.Core.List.{List}
+use mathlib.Core.List.{List, []}
+use Rattle.basics.specs.Refusals.{refused}
 use Rattle.basics.specs.Sets.{inSet}
 use Rattle.basics.proofs.Each.{each-same}
 use Rattle.gateway_rules.specs.State.{Gate}
 use Rattle.gateway_rules.specs.Step.{refusing, step}
+use Rattle.gateway_rules.specs.Reasons.{whyTold}
 use Rattle.gateway.specs.declared.state.Head.{Head}
 use Rattle.gateway.specs.declared.state.Gateway.{Gateway}
 use Rattle.gateway.specs.State.{Lists, lineAt, linesIn, gateIn, listsOf, gateOf, SameToTheCount, SameLengths}
 use Rattle.gateway.specs.Answers.{badLengths, lentStep}
+use Rattle.gateway.specs.Asking.{lentWhy}
 
 same-gate : (h k : Head) (t u : Lists) → SameToTheCount h t k u → gateIn h t ≡ gateIn k u
 unfolding gateIn
@@ -29,3 +32,10 @@ pub past-the-count-lent : (h k : Head) (t u : Lists) → SameToTheCount h t k u 
 past-the-count-lent h k t u s l q bytes =
     let gates = same-gate h k t u s in
     λ i. cond (badLengths (l .nodes i) (l .starts i) (l .ports i) (l .sizes i)) (refusing (gates i) 7) (step (gates i) q bytes)
+
+-- And so does whoever asks why.
+pub past-the-count-why : (h k : Head) (t u : Lists) → SameToTheCount h t k u → SameLengths t u → (q p : ℕ) (bytes : List ℕ)
+    → lentWhy h t q p bytes ≡ lentWhy k u q p bytes
+past-the-count-why h k t u s l q p bytes =
+    let gates = same-gate h k t u s in
+    λ i. cond (badLengths (l .nodes i) (l .starts i) (l .ports i) (l .sizes i)) (refused 7 []) (whyTold (gates i) q p bytes)
