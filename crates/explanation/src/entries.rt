@@ -11,10 +11,10 @@ ghost use Rattle.replay.specs.Files.{entryCount, goodFile};
 ghost use Rattle.replay.specs.Lines.{ports};
 ghost use Rattle.explanation.specs.Words.{linesFrom};
 use crate::legs;
-use crate::legs::LEGS;
 use crate::legs::SoFar;
 use gateway::Gateway;
 use range::HOUSE;
+use replay::PORTS;
 use text::Place;
 
 // Puts the lines of each entry into text.
@@ -24,7 +24,7 @@ pub(crate) fn run(file: &[u8], first: Place, text: &mut [u8]) -> Place
     ensures { λ r. ⌜ r ≡ endOf first (linesFrom (entryCount (now (file .entry))) 0 false (startOf ports house) (now (file .entry))) (now (text .entry)) ⌝ }
     ensures { λ _. ⌜ now (text .exit) ≡ filled first (linesFrom (entryCount (now (file .entry))) 0 false (startOf ports house) (now (file .entry))) (now (text .entry)) ⌝ }
 {
-    let started = gateway::start(LEGS, HOUSE);
+    let started = gateway::start(PORTS, HOUSE);
     let gateway = started.gateway;
     from(gateway, file, first, text)
 }

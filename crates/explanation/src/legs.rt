@@ -11,9 +11,8 @@ ghost use Rattle.explanation.specs.Words.{eventIn, legLines, entryLines,
 use crate::lines;
 use gateway::Head;
 use gateway::WhyAnswer;
+use replay::PORTS;
 use text::Place;
-
-pub(crate) const LEGS: u8 = 4;
 
 // What is told so far: the place after it, and whether a report was accepted.
 pub(crate) struct SoFar {
@@ -90,7 +89,7 @@ fn put_legs(
     let event = numbers::read_at(bytes, 8, 8);
     let mut next = at;
     let mut leg = 0;
-    while leg < LEGS {
+    while leg < PORTS {
         let WhyAnswer::Because(reason) = gateway::why(
             head,
             nodes,

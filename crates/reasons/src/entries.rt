@@ -9,9 +9,8 @@ ghost use Rattle.reasons.specs.Lines.{leftAfter, lastOf};
 use crate::lines;
 use gateway::Gateway;
 use range::HOUSE;
+use replay::PORTS;
 use text::Place;
-
-const PORTS: u8 = 4;
 
 // Puts the lines of the last entry into text, whose number is given.
 pub(crate) fn ask_last(file: &[u8], last: usize, at: Place, text: &mut [u8]) -> Place

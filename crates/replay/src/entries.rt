@@ -9,12 +9,11 @@ ghost use Rattle.gateway.specs.State.{gateOf};
 ghost use Rattle.gateway_rules.specs.State.{startOf};
 ghost use Rattle.replay.specs.Files.{entryCount, goodFile};
 ghost use Rattle.replay.specs.Lines.{ports, linesFrom};
+use crate::PORTS;
 use crate::lines;
 use gateway::Gateway;
 use range::HOUSE;
 use text::Place;
-
-const PORTS: u8 = 4;
 
 // Puts the line of each entry into text.
 pub(crate) fn run(file: &[u8], first: Place, text: &mut [u8]) -> Place

@@ -10,6 +10,9 @@ ghost use Rattle.text.specs.Text.{filledAt, endAt, laidOver};
 ghost use Rattle.replay.specs.Lines.{textOf};
 use text::Place;
 
+// How many ports the box of a trial file has.
+pub const PORTS: u8 = 4;
+
 // Puts the text of a file into text, as much of it as fits, and answers how many bytes that took.
 pub fn replay(file: &[u8], text: &mut [u8]) -> usize
     ensures { λ r. ⌜ r ≡ endAt 0 (textOf (now (file .entry))) (now (text .entry)) ⌝ }
