@@ -1,6 +1,6 @@
 /* The proved box and boards, for C and for what links with C.
  *
- * Every function answers every input that C can write down: a refusal has a number (document 01, "Refusal numbers"), 0 is none. A refusal changes
+ * Every function answers every input that C can write down: a refusal has a number (document 01, "Refusal numbers", and 15 of document 02), 0 is none. A refusal changes
  * no output byte; a box or a board comes back as it was, a lent box's marks and count as they were, and every other number beside it is 0. Nothing is kept
  * between calls and nothing is allocated.
  *

@@ -10,7 +10,7 @@ use Rattle.message.specs.declared.Field.the-variants.{Present, Absent}
 use Rattle.message.specs.declared.Message.{Message}
 use Rattle.message.specs.Mti.{contentAt}
 use Rattle.gateway_rules.specs.declared.Holder.{Holder}
-use Rattle.gateway_rules.specs.Reasons.{Numbered}
+use Rattle.gateway_rules.specs.Reasons.{Numbered, numberIn}
 use Rattle.c_face.specs.declared.FlatNumber.{FlatNumber}
 use Rattle.c_face.specs.declared.FlatMessage.{FlatMessage}
 use Rattle.c_face.specs.declared.FlatReading.{FlatReading}
@@ -69,7 +69,7 @@ namedIn t = firstOr [] (λ r. r .named) (t .value)
 abbrev pub toldReason : Told (List Numbered) → FlatReason
 toldReason t = record {
   refusal = t .refusal;
-  reason = firstOr 0 (λ r. r .number) (t .value);
+  reason = numberIn t;
   place = firstOr 0 (λ l. l .place) (namedIn t);
   node = firstOr 0 (λ l. l .node) (namedIn t);
   block = firstOr (record { start = 0; k = 0 }) (λ l. l .block) (namedIn t);

@@ -9,7 +9,7 @@ use borrow.Author.Tests.{eqb-true}
 use lib.Dec.{eqb}
 use Rattle.numbers.specs.Numbers.{numberAt}
 use Rattle.basics.specs.Lists.{firstOr}
-use Rattle.basics.specs.Refusals.{answered, Told, told, refused}
+use Rattle.basics.specs.Refusals.{answered, Told, told}
 use Rattle.message.specs.declared.Kind.the-variants.{EventReport}
 use Rattle.message.specs.declared.Saying.{Saying}
 use Rattle.message.specs.declared.Saying.the-variants.{Report}

@@ -51,7 +51,7 @@ holder-length l h = simp length-append (omega (arith, decimal-length 3 (l .place
 named-place : (g : Gate) (q e p : ℕ) (l : Holder) → reasonFor g q e p ≡ HeldBy l → l .place < length (g .lines)
 named-place g q e p l f =
     let w = line-named g q e p l f in
-    omega (arith, ap (λ (x : Holder). x .place) (w .named), ap length (w .table), length-append (w .before) (w .line ∷ w .later))
+    omega (arith, w .at, ap length (w .table), length-append (w .before) (w .line ∷ w .later))
 
 reason-length : (e : ℕ) (r : Reason) → ((l : Holder) → r ≡ HeldBy l → l .place < full) → length (reasonText e r) ≤ 82
 reason-length e ArrivalPort h = omega arith

@@ -4,7 +4,9 @@ use mathlib.Core.Path.{_≡_, refl, sym, ap, _∙_}
 use mathlib.Core.Bool.{Bool, true, false, cond, _||_, or-true}
 use mathlib.Core.List.{List, [], _∷_}
 use borrow.Author.Tests.{eq-eqb, ne-eqb, le-leb, lt-leb}
+use native.Mathlib.Omega.{arith}
 use lib.Dec.{leb}
+use lib.ListN.{length}
 use denote.Enum.Declared.{tagOf, declared}
 use types.Run.{OneOf, miss}
 use Rattle.range.specs.Range.{inBlock}
@@ -14,11 +16,15 @@ use Rattle.message.specs.declared.Saying.{Saying}
 use Rattle.message.specs.declared.Saying.the-variants.{Report, Announcement, Restart, Inquiry, InquiryForAll, Learn, Nothing}
 use Rattle.gateway_rules.specs.declared.Reason.{Reason}
 use Rattle.gateway_rules.specs.declared.Reason.the-variants.{ArrivalPort, AutomaticEvent, OpenPort}
-use Rattle.gateway_rules.specs.Reasons.{Numbered, reasonFor, byLine, firstHolding, eventOf, whyTold}
+use Rattle.basics.specs.Lists.{firstOr}
+use Rattle.gateway_rules.specs.Reasons.{Numbered, reasonTold, reasonFor, byLine, firstHolding, eventOf, whyTold}
 use Rattle.gateway.specs.declared.state.Head.{Head}
 use Rattle.gateway.specs.State.{Lists, linesIn, gateIn}
 use Rattle.gateway.specs.Answers.{badLists}
-use Rattle.gateway.specs.Asking.{lentWhy}
+use Rattle.gateway.specs.declared.asking.WhyAnswer.{WhyAnswer}
+use Rattle.gateway.specs.declared.asking.WhyAnswer.the-variants.{Because, Refused}
+use Rattle.gateway.specs.Asking.{answerTold, lentWhy}
+use Rattle.gateway_rules.proofs.Asking.{reason-once}
 
 -- ---- the reason
 
@@ -43,6 +49,13 @@ module _ (head : Head) (t : Lists) (q e p : ℕ) where
   by-lines other a m = rw (ne-eqb p q other, a, ne-eqb (head .marks / 2 ^ p % 2) 1 m)
 
 -- ---- the answer
+
+-- What is told decides it.
+pub why-once : (x y : WhyAnswer) → answerTold x ≡ answerTold y → x ≡ y
+why-once (Because a) (Because b) e = ap Because (reason-once a b (ap (λ (t : Told (List Numbered)). firstOr (reasonTold a) (λ n. n) (t .value)) e))
+why-once (Because a) (Refused n) e = absurd (omega (arith, ap (λ (t : Told (List Numbered)). length (t .value)) e))
+why-once (Refused n) (Because b) e = absurd (omega (arith, ap (λ (t : Told (List Numbered)). length (t .value)) e))
+why-once (Refused n) (Refused m) e = ap Refused (ap (λ (t : Told (List Numbered)). t .refusal) e)
 
 -- What is no report has no event.
 pub no-event : (s : Saying) → OneOf (1 ∷ 2 ∷ 3 ∷ 4 ∷ 5 ∷ 6 ∷ []) (tagOf (declared sayings) s) → eventOf s ≡ []

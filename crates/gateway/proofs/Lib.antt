@@ -1,4 +1,4 @@
-mod Answering
+pub mod Answering
 mod Bits
 mod Held
 mod InBounds

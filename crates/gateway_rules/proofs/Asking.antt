@@ -2,7 +2,7 @@
 use Prim.Native.Nat.{ℕ, zero, suc, _<_, _≤_}
 use mathlib.Core.Path.{_≡_, refl, sym, ap, _∙_}
 use mathlib.Core.Logic.{_↔_, ⊎-elim}
-use mathlib.Core.Bool.{Bool, true, false, cond, not, _||_, or-false, true≢false}
+use mathlib.Core.Bool.{Bool, true, false, cond, not, _&&_, _||_, or-false, true≢false}
 use mathlib.Core.List.{List, [], _∷_, _++_}
 use native.Mathlib.Omega.{arith}
 use borrow.Author.Tests.{leb-false, lt-leb, not-false}
@@ -10,7 +10,7 @@ use lib.Dec.{eqb, leb}
 use lib.ListN.{length}
 use Rattle.range.specs.Range.{isBlock}
 use Rattle.basics.specs.Lists.{any, firstOr}
-use Rattle.basics.specs.Refusals.{refuse, firstOf, answered, told, refused, None, Given}
+use Rattle.basics.specs.Refusals.{refuse, firstOf, answered, Told, told, refused, None, Given}
 use Rattle.basics.proofs.Bools.{neither}
 use Rattle.basics.proofs.Lists.{any-append}
 use Rattle.basics.proofs.Firsts.{first-some, first-after, first-none, first-given, first-up-to, first-passed, rest-passed, told-number, answered-yes, answered-no}
@@ -26,15 +26,15 @@ use Rattle.gateway_rules.specs.declared.Holder.{Holder}
 use Rattle.gateway_rules.specs.declared.Reason.{Reason}
 use Rattle.gateway_rules.specs.declared.Reason.the-variants.{ArrivalPort, AutomaticEvent, OpenPort, HeldBy, NothingHolds}
 use Rattle.gateway_rules.specs.State.{Gate, badLine, badBesideLines, outOfBounds}
-use Rattle.gateway_rules.specs.Step.{stepTests, step}
-use Rattle.gateway_rules.specs.History.{Reports}
-use Rattle.gateway_rules.specs.Reasons.{reasonFor, Numbered, reasonTold, eventOf, reportedIn, whyTests, whyTold}
+use Rattle.gateway_rules.specs.Step.{stepTests, step, start}
+use Rattle.gateway_rules.specs.History.{Entry, after, accepted, Reports, HeldBack}
+use Rattle.gateway_rules.specs.Reasons.{reasonFor, Numbered, reasonTold, numberIn, eventOf, reportedIn, whyTests, whyTold}
 use Rattle.message.proofs.Exactly.{read-accepted}
 use Rattle.gateway_rules.proofs.Said.{report-kind}
 use Rattle.gateway_rules.proofs.Holding.{true-or-false}
 use Rattle.gateway_rules.proofs.Sending.{refusal-first}
 use Rattle.gateway_rules.proofs.Reported.{accepted-reports}
-use Rattle.gateway_rules.proofs.Reasons.{line-named}
+use Rattle.gateway_rules.proofs.Reasons.{reason-sends, sends-number, line-named, nothing-exactly}
 
 -- ---- refusals
 
@@ -57,7 +57,7 @@ pub why-up-to : (g : Gate) (q p : ℕ) (bytes : List ℕ) → whyTold g q p byte
 why-up-to g q p bytes = omega (arith, why-number g q p bytes, first-up-to 15 (whyTests g q p bytes) refl)
 
 -- No reason's number is above 5.
-pub reason-up-to : (g : Gate) (q p : ℕ) (bytes : List ℕ) → firstOr 0 (λ r. r .number) (whyTold g q p bytes .value) ≤ 5
+pub reason-up-to : (g : Gate) (q p : ℕ) (bytes : List ℕ) → numberIn (whyTold g q p bytes) ≤ 5
 unfolding whyTold
 reason-up-to g q p bytes = go (firstOf (whyTests g q p bytes)) (reasonFor g q (firstOr 0 (λ e. e) (reportedIn bytes)) p)
   where
@@ -139,6 +139,32 @@ why-answered g q p bytes a =
     no-fifteen : (t : Bool) → _≡_ {A = ℕ} (cond t 15 0) 0 → t ≡ false
     no-fifteen true e = absurd (omega (arith, e))
     no-fifteen false e = refl
+
+-- THEOREM, in document 02's numbers: a report is sent to the asked port exactly when what is told is 2, 3 or 4.
+pub told-sent : (g : Gate) (q p : ℕ) (bytes : List ℕ) → whyTold g q p bytes .refusal ≡ 0
+    → step g q bytes .to p ≡ (leb 2 (numberIn (whyTold g q p bytes)) && leb (numberIn (whyTold g q p bytes)) 4)
+told-sent g q p bytes a =
+    let w = why-answered g q p bytes a in
+    reason-sends g q bytes (w .accepted) (w .event) (w .reports) p (asked-there g q p bytes a)
+    ∙ sends-number (reasonFor g q (w .event) p)
+    ∙ ap (λ (t : Told (List Numbered)). leb 2 (numberIn t) && leb (numberIn t) 4) (sym (w .told))
+
+-- THEOREM: from any start, over any messages in any order, 5 is told of another port than that of arrival exactly when demand 3 holds the report back.
+pub told-nothing : (ports r : ℕ) → start ports r .refusal ≡ 0 → (h : List Entry) (q p : ℕ) (bytes : List ℕ) → (p ≡ q → ⊥)
+    → (w : Answered (after (start ports r .next) h) q p bytes)
+    → (numberIn (whyTold (after (start ports r .next) h) q p bytes) ≡ 5) ↔ HeldBack (start ports r .next) (accepted ports h) p (w .event)
+told-nothing ports r s h q p bytes other w =
+    let g = after (start ports r .next) h in
+    let number : numberIn (whyTold g q p bytes) ≡ reasonTold (reasonFor g q (w .event) p) .number = ap numberIn (w .told) in
+    let exactly = nothing-exactly ports r s h q (w .event) p other in
+    (λ n. exactly .0 (five (reasonFor g q (w .event) p) (sym number ∙ n)), λ k. number ∙ ap (λ (x : Reason). reasonTold x .number) (exactly .1 k))
+  where
+    five : (x : Reason) → reasonTold x .number ≡ 5 → x ≡ NothingHolds
+    five ArrivalPort n = absurd (omega (arith, n))
+    five AutomaticEvent n = absurd (omega (arith, n))
+    five OpenPort n = absurd (omega (arith, n))
+    five (HeldBy l) n = absurd (omega (arith, n))
+    five NothingHolds n = refl
 
 -- 15 is for what is read and is no report by its MTI.
 pub no-report-kind : (bytes : List ℕ) (m : Message) → readOf bytes ≡ Read m → noReport bytes ≡ not (isReport (kindOf (m .mti)))
@@ -235,4 +261,4 @@ named-block g q e p l o f =
     let split = sym (any-append (badLine (g .ports)) (w .before) (w .line ∷ w .later)) ∙ sym (ap (any (badLine (g .ports))) (w .table)) ∙ good in
     let this = neither (badLine (g .ports) (w .line)) _ (neither (any (badLine (g .ports)) (w .before)) _ split .1) .0 in
     let block = neither (badNode (w .line .node)) (not (isBlock (w .line .block))) (neither (leb (g .ports) (w .line .port)) _ this .1) .1 in
-    ap (λ (x : Holder). isBlock (x .block)) (w .named) ∙ not-false (isBlock (w .line .block)) block
+    ap isBlock (w .block) ∙ not-false (isBlock (w .line .block)) block

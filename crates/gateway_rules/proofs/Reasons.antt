@@ -82,15 +82,19 @@ first-holding p e place (x ∷ xs) l more f = go (lineHolds p e x) refl (first-h
     one-named a b e = cc
 
     go : (t : Bool) → lineHolds p e x ≡ t → (firstHolding p e (suc place) xs ≡ l ∷ more → FirstHolding p e (suc place) xs l) → FirstHolding p e place (x ∷ xs) l
-    go true t rest = record {
-      before = [];
-      line = x;
-      later = xs;
-      table = refl;
-      none-before = refl;
-      holds = t;
-      named = one-named l (holder place x) (sym f ∙ ap (λ (b : Bool). cond b (holder place x ∷ []) (firstHolding p e (suc place) xs)) t) ∙ ap (λ (n : ℕ). holder n x) (sym (add-zero place));
-    }
+    go true t rest =
+        let here = one-named l (holder place x) (sym f ∙ ap (λ (b : Bool). cond b (holder place x ∷ []) (firstHolding p e (suc place) xs)) t) in
+        record {
+          before = [];
+          line = x;
+          later = xs;
+          table = refl;
+          none-before = refl;
+          holds = t;
+          at = ap (λ (h : Holder). h .place) here ∙ sym (add-zero place);
+          owner = ap (λ (h : Holder). h .node) here;
+          block = ap (λ (h : Holder). h .block) here;
+        }
     go false t rest =
         let w = rest (sym (ap (λ (b : Bool). cond b (holder place x ∷ []) (firstHolding p e (suc place) xs)) t) ∙ f) in
         let further : suc place + length (w .before) ≡ place + length (x ∷ w .before) = omega arith in
@@ -101,7 +105,9 @@ first-holding p e place (x ∷ xs) l more f = go (lineHolds p e x) refl (first-h
           table = ap (λ (ls : List Line). x ∷ ls) (w .table);
           none-before = ap₂ (λ (a b : Bool). a || b) t (w .none-before);
           holds = w .holds;
-          named = w .named ∙ ap (λ (n : ℕ). holder n (w .line)) further;
+          at = w .at ∙ further;
+          owner = w .owner;
+          block = w .block;
         }
 
 -- Lines behind one that is named do not matter, and those before that hold nothing are passed over.
@@ -179,10 +185,9 @@ module _ (start : Gate) (empty : start .lines ≡ []) (closed : (p : ℕ) → st
       let parts = both (eqb (w .line .port) p) (inBlock (w .line .block) e) (w .holds) in
       let there = ap (λ (lines : List Line). has lines (w .line)) (w .table) ∙ has-within (w .before) (w .later) (w .line) in
       let live = holds .lines-live (w .line) there in
-      subst (λ (x : Holder). Live h p (x .node) (x .block) × (inBlock (x .block) e ≡ true)) (sym (w .named)) (
-        subst (λ (n : ℕ). Live h n (w .line .node) (w .line .block)) (eqb-true (w .line .port) p (parts .0)) live,
-        parts .1,
-      )
+      let here = subst (λ (n : ℕ). Live h n (w .line .node) (w .line .block)) (eqb-true (w .line .port) p (parts .0)) live in
+      let named = subst (λ (n : ℕ). Live h p n (w .line .block)) (sym (w .owner)) here in
+      (subst (Live h p (l .node)) (sym (w .block)) named, ap (λ (b : Block). inBlock b e) (w .block) ∙ parts .1)
 
   true-of : (r : Reason) → SaysOf g q e p r → TrueOf start h q e p r
   true-of ArrivalPort s = s
@@ -202,7 +207,7 @@ reason-true ports r s h q e p =
     subst (λ (x : Gate). TrueOf x (accepted ports h) q e p (reasonFor (after x h) q e p)) (sym (begun .1))
     (subst (λ (x : Gate). TrueOf g (accepted ports h) q e p (reasonFor x q e p)) (sym (left .as-left)) here)
 
-module _ (ports r : ℕ) (s : start ports r .refusal ≡ 0) (h : List Entry) (q e p : ℕ) (other : p ≡ q → ⊥) where
+module _ (ports r : ℕ) (s : start ports r .refusal ≡ 0) (h : List Entry) (q e p : ℕ) where
   abbrev reason : Reason
   reason = reasonFor (after (start ports r .next) h) q e p
 
@@ -212,9 +217,9 @@ module _ (ports r : ℕ) (s : start ports r .refusal ≡ 0) (h : List Entry) (q 
   here : True reason
   here = reason-true ports r s h q e p
 
-  -- "Nothing" is told exactly when demand 3 holds the report back.
-  pub nothing-exactly : (reason ≡ NothingHolds) ↔ HeldBack (start ports r .next) (accepted ports h) p e
-  nothing-exactly = (λ f. subst True f here .1, λ k. go k reason here)
+  -- Of another port than that of arrival, "nothing" is the reason exactly when demand 3 holds the report back.
+  pub nothing-exactly : (p ≡ q → ⊥) → (reason ≡ NothingHolds) ↔ HeldBack (start ports r .next) (accepted ports h) p e
+  nothing-exactly other = (λ f. subst True f here .1, λ k. go k reason here)
     where
       go : HeldBack (start ports r .next) (accepted ports h) p e → (x : Reason) → True x → x ≡ NothingHolds
       go k ArrivalPort t = absurd (other t)
@@ -223,9 +228,9 @@ module _ (ports r : ℕ) (s : start ports r .refusal ≡ 0) (h : List Entry) (q 
       go k (HeldBy l) t = absurd (k .not-live (l .node) (l .block) (t .3) (t .4))
       go k NothingHolds t = refl
 
-  -- "Open" is told, of an event that is not automatic, exactly when the port was opened.
-  pub open-exactly : inBlock (start ports r .next .automatic) e ≡ false → (reason ≡ OpenPort) ↔ Opened (start ports r .next) (accepted ports h) p
-  open-exactly a = (λ f. subst True f here .2, λ o. go o reason here)
+  -- Of another port than that of arrival and an event that is not automatic, "open" is the reason exactly when the port was opened.
+  pub open-exactly : (p ≡ q → ⊥) → inBlock (start ports r .next .automatic) e ≡ false → (reason ≡ OpenPort) ↔ Opened (start ports r .next) (accepted ports h) p
+  open-exactly other a = (λ f. subst True f here .2, λ o. go o reason here)
     where
       go : Opened (start ports r .next) (accepted ports h) p → (x : Reason) → True x → x ≡ OpenPort
       go o ArrivalPort t = absurd (other t)

@@ -60,6 +60,10 @@ reasonTold OpenPort = record { number = 3; named = [] }
 reasonTold (HeldBy l) = record { number = 4; named = l ∷ [] }
 reasonTold NothingHolds = record { number = 5; named = [] }
 
+-- The number of the reason that is told; 0 beside a refusal.
+abbrev pub numberIn : Told (List Numbered) → ℕ
+numberIn t = firstOr 0 (λ r. r .number) (t .value)
+
 -- ---- asking the box
 
 -- The event of a report; what is no report has none.
@@ -86,7 +90,7 @@ whyTold g q p bytes = toldBy (whyTests g q p bytes) (reasonTold (reasonFor g q (
 
 -- ---- what a reason says
 
--- Of the table: the line named is the first that is for p and holds the event, and is named by its place, the first of the list being at one.
+-- Of the table: the line named is the first that is for p and holds the event, and is named by its place, the first of the list being at one, its Node ID and its block.
 pub record FirstHolding (p e place : ℕ) (lines : List Line) (l : Holder) : Type 0 where
   pub before : List Line
   pub line : Line
@@ -94,7 +98,9 @@ pub record FirstHolding (p e place : ℕ) (lines : List Line) (l : Holder) : Typ
   pub table : lines ≡ before ++ (line ∷ later)
   pub none-before : any (lineHolds p e) before ≡ false
   pub holds : lineHolds p e line ≡ true
-  pub named : l ≡ holder (place + length before) line
+  pub at : l .place ≡ place + length before
+  pub owner : l .node ≡ line .node
+  pub block : l .block ≡ line .block
 
 -- Of the boards, by the accepted messages alone: what each reason of a report that arrives at q says of port p.
 abbrev pub TrueOf : Gate → List Heard → ℕ → ℕ → ℕ → Reason → Type 0

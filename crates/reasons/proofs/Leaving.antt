@@ -1,12 +1,14 @@
 -- The state that some entries have left, one entry later, and the last entry, which is asked.
-use Prim.Native.Nat.{ℕ, _+_, _-_}
-use mathlib.Core.Path.{_≡_, sym, ap, ap₂, _∙_}
-use mathlib.Core.List.{List}
+use Prim.Native.Nat.{ℕ, zero, suc, _+_, _-_}
+use mathlib.Core.Path.{_≡_, refl, sym, ap, ap₂, _∙_}
+use mathlib.Core.List.{List, [], _∷_, _++_}
 use native.Mathlib.Numerals.{add-one}
 use native.Mathlib.Omega.{arith}
 use lib.ListN.{length, take, drop}
 use Rattle.range.specs.Range.{house}
-use Rattle.gateway_rules.specs.State.{Gate}
+use Rattle.basics.specs.Lists.{each}
+use Rattle.gateway_rules.specs.State.{Gate, startOf}
+use Rattle.gateway_rules.specs.History.{Entry, after}
 use Rattle.gateway_rules.specs.Step.{start, step}
 use Rattle.gateway.specs.State.{gateOf}
 use Rattle.gateway.specs.declared.Answer.{Answer}
@@ -28,6 +30,21 @@ left-next s i a e b h =
     ap (λ (x : Seen). x .gate) h
     ∙ ap₂ (λ (x : Gate) (l : List ℕ). step x (portIn s i) l .next) e b
     ∙ ap (λ (n : ℕ). leftAfter n s) (sym (add-one i))
+
+-- It is what the history of those entries leaves, so that what is known of histories is known of the text.
+abbrev entryIn : List ℕ → ℕ → Entry
+entryIn s i = record { port = portIn s i; bytes = bodyIn s i }
+
+after-end : (g : Gate) (h : List Entry) (e : Entry) → after g (h ++ (e ∷ [])) ≡ step (after g h) (e .port) (e .bytes) .next
+after-end g [] e = refl
+after-end g (x ∷ h) e = after-end (step g (x .port) (x .bytes) .next) h e
+
+pub left-history : (s : List ℕ) (n : ℕ) → leftAfter n s ≡ after (startOf ports house) (each n (entryIn s))
+unfolding leftAfter each
+left-history s zero = refl
+left-history s (suc n) =
+    ap (λ (g : Gate). step g (portIn s n) (bodyIn s n) .next) (left-history s n)
+    ∙ sym (after-end (startOf ports house) (each n (entryIn s)) (entryIn s n))
 
 -- ---- the last entry
 

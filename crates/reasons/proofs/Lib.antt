@@ -1,4 +1,4 @@
 mod Asked
-mod Leaving
+pub mod Leaving
 pub mod Longest
 mod Texts

@@ -8,10 +8,10 @@ use lib.ListN.{length, length-append}
 use Rattle.text.specs.Text.{decimal, newLine, badFile}
 use Rattle.text.proofs.Lengths.{decimal-length}
 use Rattle.gateway_rules.specs.State.{Gate}
-use Rattle.gateway_rules.specs.Reasons.{whyTold}
+use Rattle.gateway_rules.specs.Reasons.{numberIn, whyTold}
 use Rattle.gateway_rules.proofs.Asking.{why-up-to, reason-up-to}
 use Rattle.replay.specs.Files.{entryCount, goodFile}
-use Rattle.reasons.specs.Lines.{reasonIn, lineOf, lineFor, portLines, answerOf, lastOf, textOf, longest}
+use Rattle.reasons.specs.Lines.{lineOf, lineFor, portLines, answerOf, lastOf, textOf, longest}
 
 line-length : (p reason : ℕ) → p ≤ 9 → reason ≤ 9 → length (lineOf p reason) ≤ 4
 unfolding lineOf
@@ -19,7 +19,7 @@ line-length p reason h k =
     simp length-append (omega (arith, decimal-length 1 p (omega arith) (omega (arith, h)), decimal-length 1 reason (omega arith) (omega (arith, k))))
 
 port-length : (g : Gate) (q : ℕ) (bytes : List ℕ) (p : ℕ) → p ≤ 9 → length (lineFor g q bytes p) ≤ 4
-port-length g q bytes p h = line-length p (reasonIn (whyTold g q p bytes)) h (omega (arith, reason-up-to g q p bytes))
+port-length g q bytes p h = line-length p (numberIn (whyTold g q p bytes)) h (omega (arith, reason-up-to g q p bytes))
 
 answer-length : (g : Gate) (q : ℕ) (bytes : List ℕ) → length (answerOf g q bytes) ≤ longest
 unfolding answerOf

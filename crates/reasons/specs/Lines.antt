@@ -3,12 +3,10 @@ use Prim.Native.Nat.{ℕ, zero, suc}
 use mathlib.Core.Bool.{cond}
 use mathlib.Core.List.{List, [], _++_}
 use lib.Dec.{eqb}
-use Rattle.basics.specs.Lists.{firstOr}
-use Rattle.basics.specs.Refusals.{Told}
 use Rattle.range.specs.Range.{house}
 use Rattle.text.specs.Text.{decimal, space, newLine, badFile}
 use Rattle.gateway_rules.specs.State.{Gate, startOf}
-use Rattle.gateway_rules.specs.Reasons.{Numbered, whyTold}
+use Rattle.gateway_rules.specs.Reasons.{numberIn, whyTold}
 use Rattle.replay.specs.Files.{entryCount, portIn, bodyIn, goodFile}
 use Rattle.replay.specs.Lines.{ports, stepAt}
 
@@ -17,16 +15,12 @@ unfoldable pub leftAfter : ℕ → List ℕ → Gate
 leftAfter zero s = startOf ports house
 leftAfter (suc n) s = stepAt (leftAfter n s) s n .next
 
--- Document 02's number of the reason, 1 to 5; 0 beside a refusal.
-abbrev pub reasonIn : Told (List Numbered) → ℕ
-reasonIn t = firstOr 0 (λ r. r .number) (t .value)
-
 -- The port and the reason.
 unfoldable pub lineOf : ℕ → ℕ → List ℕ
 lineOf p reason = decimal p ++ (space ++ (decimal reason ++ newLine))
 
 abbrev pub lineFor : Gate → ℕ → List ℕ → ℕ → List ℕ
-lineFor g q bytes p = lineOf p (reasonIn (whyTold g q p bytes))
+lineFor g q bytes p = lineOf p (numberIn (whyTold g q p bytes))
 
 -- A line for each of the four ports.
 abbrev pub portLines : Gate → ℕ → List ℕ → List ℕ

@@ -1,9 +1,10 @@
 // The lines of an entry that is asked.
 ghost use mathlib.Core.Path.{_≡_};
 ghost use Rattle.text.specs.Text.{filled, endOf};
+ghost use Rattle.gateway_rules.specs.Reasons.{numberIn};
 ghost use Rattle.gateway.specs.State.{Whole, gateIn, held, entered};
 ghost use Rattle.gateway.specs.Asking.{answerTold};
-ghost use Rattle.reasons.specs.Lines.{reasonIn, lineFor, answerOf};
+ghost use Rattle.reasons.specs.Lines.{lineFor, answerOf};
 use gateway::Head;
 use gateway::WhyAnswer;
 use gateway_rules::Reason;
@@ -69,7 +70,7 @@ fn refused_with(a: WhyAnswer) -> u8
 }
 
 fn number_of(a: WhyAnswer) -> u8
-    ensures { λ n. ⌜ n ≡ reasonIn (answerTold a) ⌝ }
+    ensures { λ n. ⌜ n ≡ numberIn (answerTold a) ⌝ }
 {
     let WhyAnswer::Because(r) = a else {
         return 0;

@@ -3,10 +3,10 @@ use Prim.Native.Nat.{ℕ}
 use mathlib.Core.Path.{_≡_, ap, _∙_}
 use Rattle.text.specs.Text.{decimal, space, filled, endOf}
 use Rattle.text.proofs.Laws.{remains-first, remains-next, remains-last}
-use Rattle.gateway_rules.specs.Reasons.{whyTold}
+use Rattle.gateway_rules.specs.Reasons.{numberIn, whyTold}
 use Rattle.gateway.specs.State.{gateIn, held}
 use Rattle.gateway.proofs.Lending.{whole-why}
-use Rattle.reasons.specs.Lines.{reasonIn, lineOf}
+use Rattle.reasons.specs.Lines.{lineOf}
 use borrow.Author.Needs.{needs}
 use Rattle.reasons.proofs.lines.put_port.Statement.{statement}
 use Rattle.reasons.proofs.lines.put_port.Tie as tie
@@ -50,7 +50,7 @@ returns c =
     let e2 = c .before .before .before .before .before .before .before .before .before .before .before .put .ensures in
     let e3 = c .before .before .before .before .before .before .before .put-decimal2 .ensures in
     let n = c .before .before .before .before .before .before .before .before .before .before .before .before .before .before .before .before .before .before .number-of .result in
-    let told : n ≡ reasonIn (whyTold (gateIn (a .head) t) (a .port) (a .asked) (a .bytes .now)) = c .before .before .before .before .before .before .before .before .before .before .before .before .before .before .before .before .before .before .number-of .ensures ∙ ap reasonIn (c .before .before .before .before .before .before .before .before .before .before .before .before .before .before .before .before .before .before .before .why .ensures ∙ whole-why (a .head) t (a .port) (a .bytes .now) (a .asked) (c .before .before .before .before .before .before .before .before .before .before .before .before .before .before .before .before .before .before .before .before .before .before .before .before .before .before .pre)) in
+    let told : n ≡ numberIn (whyTold (gateIn (a .head) t) (a .port) (a .asked) (a .bytes .now)) = c .before .before .before .before .before .before .before .before .before .before .before .before .before .before .before .before .before .before .number-of .ensures ∙ ap numberIn (c .before .before .before .before .before .before .before .before .before .before .before .before .before .before .before .before .before .before .before .why .ensures ∙ whole-why (a .head) t (a .port) (a .bytes .now) (a .asked) (c .before .before .before .before .before .before .before .before .before .before .before .before .before .before .before .before .before .before .before .before .before .before .before .before .before .before .pre)) in
     let r1 = remains-first (a .at) (decimal (a .asked)) _ (a .text .now) (e1 .0) (e1 .1) in
     let r2 = remains-next space r1 (e2 .0) (e2 .1) in
     let r3 = remains-next (decimal n) r2 (e3 .0) (e3 .1) in
