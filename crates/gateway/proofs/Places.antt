@@ -14,8 +14,7 @@ use Rattle.range.specs.Range.{isBlock}
 use Rattle.gateway_rules.specs.declared.Line.{Line}
 use Rattle.basics.specs.Lists.{any, each, without}
 use Rattle.gateway.specs.State.{Lists, lineAt, Whole, linesIn, putAt, noBlock}
-use Rattle.basics.proofs.Lists.{any-append}
-use Rattle.gateway_rules.proofs.OwnLines.{without-append}
+use Rattle.basics.proofs.Lists.{any-append, without-append}
 use Rattle.basics.proofs.Each.{each-same}
 
 pub no-places : (at : ℕ → Line) → each 0 at ≡ []

@@ -3,7 +3,7 @@ ghost use mathlib.Core.Path.{_≡_};
 ghost use mathlib.Core.Bool.{true, false};
 ghost use Prim.Native.Nat.{_≤_, _<_};
 ghost use Rattle.range.specs.Range.{isBlock};
-ghost use Rattle.gateway_rules.specs.Step.{sameLine, has as hasLine, ownedAt};
+ghost use Rattle.gateway_rules.specs.Step.{sameLine, has as hasLine, ofNode};
 ghost use Rattle.basics.specs.Lists.{any, without};
 ghost use Rattle.gateway.specs.State.{Whole, lineAt, linesIn, putAt, noBlock, held, entered, left};
 use gateway_rules::Line;
@@ -89,39 +89,29 @@ fn same_line(a: Line, b: Line) -> bool
     }
 }
 
-// Takes a node's lines at a port out, and answers how many stay: one pass, the rest keeping their order.
-pub(crate) fn without_owned(
+// Takes a node's lines out, and answers how many stay: one pass, the rest keeping their order.
+pub(crate) fn without_node(
     count: usize,
     nodes: &mut [u64],
     starts: &mut [u64],
     ports: &mut [u8],
     sizes: &mut [u8],
-    port: u8,
     node: u64,
 ) -> usize
     requires { ⌜ count ≤ 256 ⌝ }
     requires { ⌜ Whole (held nodes starts ports sizes) ⌝ }
-    ensures { λ kept. ⌜ linesIn kept (left nodes starts ports sizes) ≡ without (ownedAt port node) (linesIn count (entered nodes starts ports sizes)) ⌝ }
+    ensures { λ kept. ⌜ linesIn kept (left nodes starts ports sizes) ≡ without (ofNode node) (linesIn count (entered nodes starts ports sizes)) ⌝ }
 {
     let mut i = 0;
     let mut j = 0;
     while i < count {
         let l = line_at(nodes, starts, ports, sizes, i);
         i += 1;
-        if owned(l, port, node) {
+        if l.node == node {
             continue;
         }
         put_line(nodes, starts, ports, sizes, j, l);
         j += 1;
     }
     j
-}
-
-fn owned(l: Line, port: u8, node: u64) -> bool
-    ensures { λ yes. ⌜ yes ≡ ownedAt port node l ⌝ }
-{
-    if l.port != port {
-        return false;
-    }
-    l.node == node
 }

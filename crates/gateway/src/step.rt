@@ -36,7 +36,7 @@ pub(crate) fn hear(
     ensures { λ r. ⌜ gateAfter head r (left nodes starts ports sizes) ≡ hearAt (gateIn head (entered nodes starts ports sizes)) port node saying ⌝ }
 {
     if let Saying::Restart = saying {
-        return restart(head, nodes, starts, ports, sizes, port, node);
+        return restart(head, nodes, starts, ports, sizes, node);
     }
     let Saying::Announcement(block) = saying else {
         return unchanged(head);
@@ -57,15 +57,14 @@ fn restart(
     starts: &mut [u64],
     ports: &mut [u8],
     sizes: &mut [u8],
-    port: u8,
     node: u64,
 ) -> Left
     requires { ⌜ Whole (held nodes starts ports sizes) ⌝ }
     requires { ⌜ outOfBounds (gateIn head (held nodes starts ports sizes)) ≡ false ⌝ }
-    ensures { λ r. ⌜ gateAfter head r (left nodes starts ports sizes) ≡ restartOf (gateIn head (entered nodes starts ports sizes)) port node ⌝ }
+    ensures { λ r. ⌜ gateAfter head r (left nodes starts ports sizes) ≡ restartOf (gateIn head (entered nodes starts ports sizes)) node ⌝ }
 {
     let marks = head.marks;
-    let count = lines::without_owned(head.count, nodes, starts, ports, sizes, port, node);
+    let count = lines::without_node(head.count, nodes, starts, ports, sizes, node);
     Left { marks, count }
 }
 

@@ -1,5 +1,5 @@
 -- The ways in which an accepted message can change the state: one for each case of the document.
-use Prim.Native.Nat.{ℕ, _≤_, _<_}
+use Prim.Native.Nat.{ℕ, zero, suc, _≤_, _<_}
 use mathlib.Core.Path.{_≡_, refl, ap}
 use mathlib.Core.Bool.{Bool, true, false, cond}
 use mathlib.Core.List.{List, [], _∷_, _++_}
@@ -10,13 +10,15 @@ use Rattle.range.specs.declared.Block.{Block}
 use Rattle.message.specs.declared.Message.{Message}
 use Rattle.message.specs.declared.Saying.{Saying}
 use Rattle.message.specs.declared.Saying.the-variants.{Report, Announcement, Restart, Inquiry, InquiryForAll, Learn, Nothing}
+use Rattle.message.specs.Reading.{messageIn}
 use Rattle.message.specs.Saying.{saidBy}
+use Rattle.basics.specs.Refusals.{firstOf, answered}
 use Rattle.gateway_rules.specs.State.{Gate, full}
-use Rattle.gateway_rules.specs.Step.{line, has, adding, opening, announce, restart, hear, taken}
+use Rattle.gateway_rules.specs.Step.{line, has, adding, opening, announce, hear, taken, taking, refusing, stepTests, step}
 use Rattle.gateway_rules.specs.History.{Heard, leftBy, changing}
 
 pub data Change (g : Gate) (q : ℕ) (m : Message) : Gate → Type 0 where
-  restarted : saidBy m ≡ Restart → Change g q m (restart g q (m .source))
+  restarted : saidBy m ≡ Restart → Change g q m (hear g q (m .source) Restart)
   known : (b : Block) → saidBy m ≡ Announcement b → has (g .lines) (line q (m .source) b) ≡ true → Change g q m g
   added : (b : Block) → saidBy m ≡ Announcement b → has (g .lines) (line q (m .source) b) ≡ false → length (g .lines) < full
       → Change g q m (adding g (line q (m .source) b))
@@ -46,6 +48,15 @@ change-of g q m = by-saying (saidBy m) refl
     by-saying (InquiryForAll to) e = passed (ap changing e)
     by-saying (Learn x) e = passed (ap changing e)
     by-saying Nothing e = passed (ap changing e)
+
+-- A step keeps the state or takes the message: what is true of both is true of what it leaves.
+pub by-step : (g : Gate) (q : ℕ) (bytes : List ℕ) (P : Gate → Type 0) → P g → P (taken g q (messageIn bytes)) → P (step g q bytes .next)
+unfolding step
+by-step g q bytes P kept took = go (firstOf (stepTests g q bytes))
+  where
+    go : (n : ℕ) → P (answered (taking g q) (refusing g) n (messageIn bytes) .next)
+    go zero = took
+    go (suc n) = kept
 
 -- One message more at the end of a history.
 pub left-end : (g : Gate) (h : List Heard) (s : Heard) → leftBy g (h ++ (s ∷ [])) ≡ taken (leftBy g h) (s .port) (s .message)

@@ -10,7 +10,7 @@ use Rattle.message.specs.declared.Message.{Message}
 use Rattle.gateway_rules.specs.declared.Line.{Line}
 use Rattle.gateway_rules.specs.State.{Gate, full, outOfBounds, startOf}
 use Rattle.basics.specs.Lists.{without}
-use Rattle.gateway_rules.specs.Step.{sameLine, has, distinct, ownedAt, start}
+use Rattle.gateway_rules.specs.Step.{sameLine, has, distinct, ofNode, start}
 use Rattle.gateway_rules.specs.History.{Entry, after, Heard, accepted, leftBy}
 use Rattle.gateway_rules.proofs.Lists.{same-line, has-append, has-without}
 use Rattle.basics.proofs.Sinces.{by-end}
@@ -50,7 +50,7 @@ distinct-without test (x ∷ xs) d = go (test x) (both (not (has xs x)) (distinc
         ap₂ (λ (a b : Bool). not a && b) gone (rest (parts .1))
 
 distinct-change : (g : Gate) (q : ℕ) (m : Message) → distinct (g .lines) ≡ true → {g′ : Gate} → Change g q m g′ → distinct (g′ .lines) ≡ true
-distinct-change g q m d (restarted e) = distinct-without (ownedAt q (m .source)) (g .lines) d
+distinct-change g q m d (restarted e) = distinct-without (ofNode (m .source)) (g .lines) d
 distinct-change g q m d (known b e t) = d
 distinct-change g q m d (added b e f room) = distinct-append (g .lines) _ d f
 distinct-change g q m d (opened b e f most) = d

@@ -21,13 +21,13 @@ use Rattle.basics.specs.Since.Never.{nothing, nor}
 
 -- ---- document 01's seven entries
 
-abbrev entry : ℕ → List ℕ → Entry
+abbrev pub entry : ℕ → List ℕ → Entry
 entry port bytes = record { port = port; bytes = bytes }
 
-abbrev withEvent : ℕ → ℕ → ℕ → List ℕ
+abbrev pub withEvent : ℕ → ℕ → ℕ → List ℕ
 withEvent mti source event = bytesOf 2 mti ++ (bytesOf 6 source ++ bytesOf 8 event)
 
-abbrev initialized : ℕ → List ℕ
+abbrev pub initialized : ℕ → List ℕ
 initialized node = bytesOf 2 0x0100 ++ (bytesOf 6 node ++ bytesOf 6 node)
 
 abbrev seven : List Entry
@@ -47,7 +47,7 @@ pub record Printed : Type 0 where
   pub digits : List ℕ
   pub lines : ℕ
 
-abbrev printed : Gate → List Entry → List Printed
+abbrev pub printed : Gate → List Entry → List Printed
 printed g [] = []
 printed g (e ∷ h) =
     let o = step g (e .port) (e .bytes) in
@@ -57,7 +57,7 @@ printed g (e ∷ h) =
       lines = length (o .next .lines);
     } ∷ printed (o .next) h
 
-abbrev row : ℕ → ℕ → ℕ → ℕ → ℕ → ℕ → Printed
+abbrev pub row : ℕ → ℕ → ℕ → ℕ → ℕ → ℕ → Printed
 row refusal a b c d lines = record { refusal = refusal; digits = a ∷ b ∷ c ∷ d ∷ []; lines = lines }
 
 pub seven-lines : printed (startOf 4 house) seven
@@ -117,7 +117,7 @@ pub same-words : (concerning 1 (carrying 0x04C4 7 ∷ carrying 0x04A4 0 ∷ rest
 unfolding concerning saidBy meaningOf blockOf run bitsEqual
 same-words = (refl, refl)
 
--- What comes in by another port is left out, and so is a report.
-pub others-left-out : concerning 2 (carrying 0x04C4 7 ∷ restarting 0x0100 ∷ []) ++ concerning 1 (carrying 0x05B4 7 ∷ []) ≡ []
+-- An announcement that comes in by another port is left out, and so is a report; a restart is not, whichever port it came in by.
+pub others-left-out : (concerning 2 (carrying 0x04C4 7 ∷ []) ++ concerning 1 (carrying 0x05B4 7 ∷ []) ≡ []) × (concerning 2 (restarting 0x0100 ∷ []) ≡ word Restart ∷ [])
 unfolding concerning saidBy meaningOf
-others-left-out = refl
+others-left-out = (refl, refl)

@@ -16,9 +16,9 @@ use Rattle.message.specs.declared.Saying.the-variants.{Announcement, Restart}
 use Rattle.message.specs.Saying.{saidBy}
 use Rattle.gateway_rules.specs.declared.Line.{Line}
 use Rattle.gateway_rules.specs.State.{Gate, full}
-use Rattle.gateway_rules.specs.Step.{line, sameLine, has, ownedAt}
+use Rattle.gateway_rules.specs.Step.{line, sameLine, has, ofNode}
 use Rattle.basics.specs.Lists.{without}
-use Rattle.gateway_rules.specs.History.{Heard, changing, Announces, Restarts, Live, leftBy, Overflows, Opened, Holds}
+use Rattle.gateway_rules.specs.History.{Heard, changing, Announces, Restarts, Ends, Live, leftBy, Overflows, Opened, Holds}
 use Rattle.gateway_rules.proofs.Lists.{same-line, has-append, has-without}
 use Rattle.basics.proofs.Lists.{length-without}
 use Rattle.basics.proofs.Sinces.{by-end, since-none, since-new, since-old, since-end}
@@ -30,19 +30,19 @@ use Rattle.gateway_rules.proofs.Changes.Change.{restarted, known, added
 module _ (p n : ℕ) (b : Block) (h : List Heard) (s : Heard) where
   pub live-new : Announces p n b s → Live (h ++ (s ∷ [])) p n b
   unfolding Live
-  live-new a = since-new (λ _ x. Announces p n b x) (Restarts p n) h s a
+  live-new a = since-new (λ _ x. Announces p n b x) (Ends p n) h s a
 
-  pub live-old : Live h p n b → (Restarts p n s → ⊥) → Live (h ++ (s ∷ [])) p n b
+  pub live-old : Live h p n b → (Ends p n s → ⊥) → Live (h ++ (s ∷ [])) p n b
   unfolding Live
-  live-old l r = since-old (λ _ x. Announces p n b x) (Restarts p n) h s l r
+  live-old l r = since-old (λ _ x. Announces p n b x) (Ends p n) h s l r
 
-  pub live-end : Live (h ++ (s ∷ [])) p n b → Announces p n b s ⊎ (Live h p n b × (Restarts p n s → ⊥))
+  pub live-end : Live (h ++ (s ∷ [])) p n b → Announces p n b s ⊎ (Live h p n b × (Ends p n s → ⊥))
   unfolding Live
-  live-end l = since-end (λ _ x. Announces p n b x) (Restarts p n) h s l
+  live-end l = since-end (λ _ x. Announces p n b x) (Ends p n) h s l
 
 pub never-live : (p n : ℕ) (b : Block) → Live [] p n b → ⊥
 unfolding Live
-never-live p n b l = since-none (λ _ x. Announces p n b x) (Restarts p n) l
+never-live p n b l = since-none (λ _ x. Announces p n b x) (Ends p n) l
 
 module _ (g : Gate) (p : ℕ) (h : List Heard) (s : Heard) where
   pub opened-new : Overflows g p h s → Opened g (h ++ (s ∷ [])) p
@@ -66,7 +66,7 @@ never-opened g p o = since-none (Overflows g p) (λ _. ⊥) o
 not-both : (s : Saying) (b : Block) → s ≡ Restart → s ≡ Announcement b → ⊥
 not-both s b e f = let z : _≡_ {A = ℕ} 0 1 = cc in omega arith
 
-pub no-restart : {p n : ℕ} {s : Heard} (b : Block) → saidBy (s .message) ≡ Announcement b → Restarts p n s → ⊥
+pub no-restart : {n : ℕ} {s : Heard} (b : Block) → saidBy (s .message) ≡ Announcement b → Restarts n s → ⊥
 no-restart {s = s} b e r = not-both (saidBy (s .message)) b (r .says) e
 
 -- The line of an announcement.
@@ -79,15 +79,6 @@ announced-line {b = b} {b′ = b′} {s = s} a e =
     announced-once x y p = cc
 
 -- ---- one message later
-
--- A line that a restart removes is one of the node that restarts, at the port where it does.
-owned : (q n : ℕ) (l : Line) → ownedAt q n l ≡ true → (l .port ≡ q) × (l .node ≡ n)
-owned q n l e =
-    let h = both (eqb (l .port) q) (eqb (l .node) n) e in
-    (eqb-true (l .port) q (h .0), eqb-true (l .node) n (h .1))
-
-owns : (q n : ℕ) (l : Line) → l .port ≡ q → l .node ≡ n → ownedAt q n l ≡ true
-owns q n l e f = rw (eq-eqb (l .port) q e, eq-eqb (l .node) n f)
 
 pub true-or-false : (t : Bool) → (t ≡ true) ⊎ (t ≡ false)
 true-or-false true = inl refl
@@ -105,10 +96,10 @@ module _ (start : Gate) (h : List Heard) (s : Heard) (i : Holds start (leftBy st
   h′ = h ++ (s ∷ [])
 
   -- Where the lines stay, those of before stay live, and no new one is needed.
-  still-live : ((l : Line) → Restarts (l .port) (l .node) s → ⊥) → (l : Line) → has (g .lines) l ≡ true → Live h′ (l .port) (l .node) (l .block)
+  still-live : ((l : Line) → Ends (l .port) (l .node) s → ⊥) → (l : Line) → has (g .lines) l ≡ true → Live h′ (l .port) (l .node) (l .block)
   still-live stays l t = live-old (l .port) (l .node) (l .block) h s (i .lines-live l t) (stays l)
 
-  still-there : (lines : List Line) → ((l : Line) → has (g .lines) l ≡ true → (Restarts (l .port) (l .node) s → ⊥) → has lines l ≡ true)
+  still-there : (lines : List Line) → ((l : Line) → has (g .lines) l ≡ true → (Ends (l .port) (l .node) s → ⊥) → has lines l ≡ true)
       → ((p n : ℕ) (b : Block) → Announces p n b s → (has lines (line p n b) ≡ true) ⊎ Opened start h′ p)
       → (p n : ℕ) (b : Block) → Live h′ p n b → (has lines (line p n b) ≡ true) ⊎ Opened start h′ p
   still-there lines stays new p n b l =
@@ -128,21 +119,21 @@ module _ (start : Gate) (h : List Heard) (s : Heard) (i : Holds start (leftBy st
 
   holds-step : {g′ : Gate} → Change g (s .port) (s .message) g′ → Holds start g′ h′
   holds-step (restarted e) = record {
-    live-lines = still-there (without (ownedAt (s .port) (s .message .source)) (g .lines))
+    live-lines = still-there (without (ofNode (s .message .source)) (g .lines))
         (λ l t stays.
-        has-without (ownedAt (s .port) (s .message .source)) (g .lines) l
+        has-without (ofNode (s .message .source)) (g .lines) l
         ∙ ⊎-elim
-        (λ o. let w = owned (s .port) (s .message .source) l o in let n = w .1 in absurd (stays (record { here = sym (w .0); node = cc; says = e })))
+        (λ o. absurd (stays (record { node = sym (eqb-true (l .node) (s .message .source) o); says = e })))
         (λ o. ap₂ (λ (x y : Bool). not x && y) o t)
-        (true-or-false (ownedAt (s .port) (s .message .source) l)))
+        (true-or-false (ofNode (s .message .source) l)))
         (λ p n b a. absurd (not-both (saidBy (s .message)) b e (a .says)));
     lines-live = λ l t.
-        let k = both (not (ownedAt (s .port) (s .message .source) l)) (has (g .lines) l) (sym (has-without (ownedAt (s .port) (s .message .source)) (g .lines) l) ∙ t) in
+        let k = both (not (ofNode (s .message .source) l)) (has (g .lines) l) (sym (has-without (ofNode (s .message .source)) (g .lines) l) ∙ t) in
         live-old (l .port) (l .node) (l .block) h s (i .lines-live l (k .1))
-        (λ r. false≢true (sym (ap not (owns (s .port) (s .message .source) l (sym (r .here)) (sym (r .node)))) ∙ k .0));
+        (λ r. false≢true (sym (ap not (eq-eqb (l .node) (s .message .source) (sym (r .node)))) ∙ k .0));
     opened-marks = still-marked (λ p v. not-both (saidBy (s .message)) (v .block) e (v .announces .says));
     marks-opened = still-opened;
-    few = le-trans (length-without (ownedAt (s .port) (s .message .source)) (g .lines)) (i .few);
+    few = le-trans (length-without (ofNode (s .message .source)) (g .lines)) (i .few);
   }
   holds-step (known b e t) = record {
     live-lines = still-there (g .lines) (λ l u _. u) (λ p n b′ a. inl (ap (has (g .lines)) (announced-line a e) ∙ t));

@@ -14,5 +14,6 @@ pub mod Accepted
 pub mod Sharing
 pub mod Examples
 pub mod AskedExamples
+pub mod MovedExamples
 pub mod Reported
 pub mod Limits

@@ -1,5 +1,5 @@
 -- How large what a step answers can be.
-use Prim.Native.Nat.{ℕ, zero, suc, _≤_}
+use Prim.Native.Nat.{ℕ, _≤_}
 use mathlib.Core.List.{List, [], _∷_}
 use mathlib.Core.Path.{refl}
 use native.Mathlib.Nat.{le-trans}
@@ -7,12 +7,11 @@ use native.Mathlib.Omega.{arith}
 use lib.ListN.{length, length-append}
 use Rattle.message.specs.declared.Message.{Message}
 use Rattle.message.specs.Reading.{messageIn}
-use Rattle.basics.specs.Refusals.{firstOf, answered}
 use Rattle.basics.proofs.Firsts.{first-up-to}
 use Rattle.basics.proofs.Lists.{length-without}
 use Rattle.gateway_rules.specs.State.{Gate, full}
-use Rattle.gateway_rules.specs.Step.{line, ownedAt, taking, refusing, stepTests, step}
-use Rattle.gateway_rules.proofs.Changes.{Change, change-of}
+use Rattle.gateway_rules.specs.Step.{line, ofNode, stepTests, step}
+use Rattle.gateway_rules.proofs.Changes.{Change, change-of, by-step}
 use Rattle.gateway_rules.proofs.Changes.Change.{restarted, known, added, opened, passed}
 use Rattle.gateway_rules.proofs.Sending.{refusal-first}
 
@@ -22,16 +21,11 @@ step-up-to g q bytes = omega (arith, refusal-first g q bytes, first-up-to 8 (ste
 
 -- A table of at most 256 lines stays one.
 few-changed : (g : Gate) (q : ℕ) (m : Message) → length (g .lines) ≤ full → {g′ : Gate} → Change g q m g′ → length (g′ .lines) ≤ full
-few-changed g q m h (restarted e) = le-trans (length-without (ownedAt q (m .source)) (g .lines)) h
+few-changed g q m h (restarted e) = le-trans (length-without (ofNode (m .source)) (g .lines)) h
 few-changed g q m h (known b e t) = h
 few-changed g q m h (added b e f room) = omega (arith, length-append (g .lines) (line q (m .source) b ∷ []), room)
 few-changed g q m h (opened b e f most) = h
 few-changed g q m h (passed e) = h
 
 pub step-few : (g : Gate) (q : ℕ) (bytes : List ℕ) → length (g .lines) ≤ full → length (step g q bytes .next .lines) ≤ full
-unfolding step
-step-few g q bytes h = go (firstOf (stepTests g q bytes))
-  where
-    go : (n : ℕ) → length (answered (taking g q) (refusing g) n (messageIn bytes) .next .lines) ≤ full
-    go zero = few-changed g q (messageIn bytes) h (change-of g q (messageIn bytes))
-    go (suc n) = h
+step-few g q bytes h = by-step g q bytes (λ (x : Gate). length (x .lines) ≤ full) h (few-changed g q (messageIn bytes) h (change-of g q (messageIn bytes)))

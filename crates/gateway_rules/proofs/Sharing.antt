@@ -1,8 +1,8 @@
--- G5, sharing: what a port is answered depends on what the announcements and restarts at that port say, and on nothing else, while no port opens.
+-- G5, sharing: what a port is answered depends on what the announcements at that port and the restarts at all ports say, and on nothing else, while no port opens.
 use Prim.Native.Nat.{ℕ, _<_}
 use mathlib.Core.Path.{_≡_, refl, sym, ap, ap₂, _∙_, subst}
 use mathlib.Core.Logic.{⊎-elim}
-use mathlib.Core.Bool.{Bool, true, false, cond, not, _&&_, true≢false}
+use mathlib.Core.Bool.{Bool, true, false, cond, not, true≢false}
 use mathlib.Core.List.{List, [], _∷_, _++_, append-nil, map, map-append}
 use borrow.Author.Tests.{eq-eqb, eqb-true}
 use lib.Dec.{eqb}
@@ -13,13 +13,12 @@ use Rattle.message.specs.Reading.{messageIn}
 use Rattle.gateway_rules.specs.State.{Gate, startOf}
 use Rattle.basics.specs.Lists.{without}
 use Rattle.basics.specs.Since.{Since}
-use Rattle.basics.proofs.Bools.{both}
 use Rattle.message.specs.declared.Saying.{Saying}
 use Rattle.message.specs.declared.Saying.the-variants.{Announcement, Restart}
 use Rattle.message.specs.Saying.{saidBy}
 use Rattle.gateway_rules.specs.Step.{Outcome, step, startTests, starting, start}
-use Rattle.gateway_rules.specs.History.{Entry, after, Heard, heardOf, accepted, Announces, Restarts, Live, Opened, Reports, HeldBack, changing, concerns, Word, wordOf, concerning}
-use Rattle.gateway_rules.proofs.OwnLines.{without-append}
+use Rattle.gateway_rules.specs.History.{Entry, after, Heard, heardOf, accepted, Announces, Restarts, Live, Opened, Reports, HeldBack, touches, concerns, Word, wordOf, concerning}
+use Rattle.basics.proofs.Lists.{without-append}
 use Rattle.basics.proofs.Sinces.{by-end, since-none, since-new, since-old, since-end}
 use Rattle.gateway_rules.proofs.Holding.{live-new, live-old, live-end, never-live, true-or-false}
 use Rattle.gateway_rules.proofs.Demand3.{start-box, demand-3}
@@ -29,15 +28,14 @@ use Rattle.gateway_rules.proofs.Accepted.{step-accepts}
 -- ---- an announcement and a restart concern the port
 
 concerns-announced : {p n : ℕ} {b : Block} {s : Heard} → Announces p n b s → concerns p s ≡ true
-concerns-announced {p} {s = s} a =
-    ap₂ (λ (x y : Bool). x && y) (eq-eqb (s .port) p (a .here)) (ap changing (a .says))
+concerns-announced {p} {s = s} a = ap (touches (eqb (s .port) p)) (a .says) ∙ eq-eqb (s .port) p (a .here)
 
-concerns-restarted : {p n : ℕ} {s : Heard} → Restarts p n s → concerns p s ≡ true
-concerns-restarted {p} {s = s} r = ap₂ (λ (x y : Bool). x && y) (eq-eqb (s .port) p (r .here)) (ap changing (r .says))
+concerns-restarted : {n : ℕ} {s : Heard} (p : ℕ) → Restarts n s → concerns p s ≡ true
+concerns-restarted {s = s} p r = ap (touches (eqb (s .port) p)) (r .says)
 
--- What concerns a port came in there.
-came-in : (p : ℕ) (s : Heard) → concerns p s ≡ true → s .port ≡ p
-came-in p s t = eqb-true (s .port) p (both (eqb (s .port) p) (changing (saidBy (s .message))) t .0)
+-- An announcement that concerns a port came in there.
+came-in : {b : Block} (p : ℕ) (s : Heard) → concerns p s ≡ true → saidBy (s .message) ≡ Announcement b → s .port ≡ p
+came-in p s t e = eqb-true (s .port) p (sym (ap (touches (eqb (s .port) p)) e) ∙ t)
 
 -- ---- live by words alone
 
@@ -80,7 +78,7 @@ module _ (p n : ℕ) (b : Block) where
           (⊎-elim
           (λ a. since-new (λ _ w. Says n (Announcement b) w) (Says n Restart) (concerning p h) (wordOf s) (announces-word a))
           (λ k. since-old (λ _ w. Says n (Announcement b) w) (Says n Restart) (concerning p h) (wordOf s) (rest (k .0))
-          (λ r. k .1 (record { here = came-in p s t; node = r .sender; says = r .says })))
+          (λ r. k .1 (record { node = r .sender; says = r .says })))
           (live-end p n b h s l)))
           (λ t.
           subst (λ (ws : List Word). LiveBy ws n b) (sym (concerning-left p h s t))
@@ -95,12 +93,12 @@ module _ (p n : ℕ) (b : Block) where
       step h s rest l = ⊎-elim
           (λ t.
           ⊎-elim
-          (λ a. live-new p n b h s (record { here = came-in p s t; sender = a .sender; says = a .says }))
+          (λ a. live-new p n b h s (record { here = came-in p s t (a .says); sender = a .sender; says = a .says }))
           (λ k. live-old p n b h s (rest (k .0)) (λ r. k .1 (record { sender = r .node; says = r .says })))
           (since-end (λ _ w. Says n (Announcement b) w) (Says n Restart) (concerning p h) (wordOf s)
           (subst (λ (ws : List Word). LiveBy ws n b) (concerning-kept p h s t) l)))
           (λ t.
-          live-old p n b h s (rest (subst (λ (ws : List Word). LiveBy ws n b) (concerning-left p h s t) l)) (λ r. true≢false (sym (concerns-restarted r) ∙ t)))
+          live-old p n b h s (rest (subst (λ (ws : List Word). LiveBy ws n b) (concerning-left p h s t) l)) (λ r. true≢false (sym (concerns-restarted p r) ∙ t)))
           (true-or-false (concerns p s))
 
 -- ---- sharing
@@ -148,8 +146,8 @@ shared ports r s h k closed-h closed-k p same q bytes e m l n a =
     (λ t. two .1 (held-shared g (accepted ports h) (accepted ports k) p e closed-k same (one .0 t)))
     (λ t. one .1 (held-shared g (accepted ports k) (accepted ports h) p e closed-h (sym same) (two .0 t)))
 
--- Two histories with the same port count and automatic block, in neither of which any port opens: if the accepted announcements and
--- restarts at p say the same in the same order, a report that is accepted at another port
+-- Two histories with the same port count and automatic block, in neither of which any port opens: if the accepted announcements at p and
+-- the restarts of all ports say the same in the same order, a report that is accepted at another port
 -- after the one is accepted there after the other, and gets the same answer for p.
 pub sharing : (ports r r′ : ℕ) → blockOf r ≡ blockOf r′ → start ports r .refusal ≡ 0 → (h k : List Entry)
     → ((q : ℕ) → Opened (start ports r .next) (accepted ports h) q → ⊥)

@@ -1,8 +1,8 @@
--- Histories: accepted messages, live announcements and opened ports (document 01, "Gateway": "For demand 3").
+-- Histories: accepted messages, live announcements and opened ports (document 01, "Gateway": "For demand 3"; document 02, W2).
 use Prim.Native.Nat.{ℕ, _≤_}
 use mathlib.Core.Path.{_≡_}
 use mathlib.Core.Logic.{_⊎_}
-use mathlib.Core.Bool.{Bool, true, false, cond, not, _&&_}
+use mathlib.Core.Bool.{Bool, true, false, cond, not}
 use mathlib.Core.List.{List, [], _∷_, _++_, map}
 use lib.Dec.{eqb, ltb}
 use lib.ListN.{length}
@@ -59,16 +59,20 @@ pub record Announces (p n : ℕ) (b : Block) (s : Heard) : Type 0 where
   pub sender : s .message .source ≡ n
   pub says : saidBy (s .message) ≡ Announcement b
 
-pub record Restarts (p n : ℕ) (s : Heard) : Type 0 where
-  pub here : s .port ≡ p
+-- At whichever port (document 02, W2).
+pub record Restarts (n : ℕ) (s : Heard) : Type 0 where
   pub node : s .message .source ≡ n
   pub says : saidBy (s .message) ≡ Restart
 
 -- ---- since
 
--- An announcement is live from when it is accepted until that node restarts at that port.
+-- What ends an announcement of n at p: that node restarts, at any port (document 02, W2).
+abbrev pub Ends : ℕ → ℕ → Heard → Type 0
+Ends p n s = Restarts n s
+
+-- An announcement is live from when it is accepted until it is ended.
 unfoldable pub Live : List Heard → ℕ → ℕ → Block → Type 0
-Live h p n b = Since (λ _ s. Announces p n b s) (Restarts p n) h
+Live h p n b = Since (λ _ s. Announces p n b s) (Ends p n) h
 
 -- ---- opened by a full table
 
@@ -112,18 +116,23 @@ pub record HeldBack (g : Gate) (h : List Heard) (p e : ℕ) : Type 0 where
 
 -- ---- sharing
 
--- Announcements and Initialization Completes.
-abbrev pub changing : Saying → Bool
-changing (Announcement b) = true
-changing Restart = true
-changing (Report e) = false
-changing (Inquiry role e) = false
-changing (InquiryForAll destination) = false
-changing (Learn e) = false
-changing Nothing = false
+-- What can change which announcements are live at a port: an announcement, where it came in there, and an Initialization Complete at any port.
+abbrev pub touches : Bool → Saying → Bool
+touches here (Announcement b) = here
+touches here Restart = true
+touches here (Report e) = false
+touches here (Inquiry role e) = false
+touches here (InquiryForAll destination) = false
+touches here (Learn e) = false
+touches here Nothing = false
 
+-- Announcements and Initialization Completes, which touch the port that they came in by.
+abbrev pub changing : Saying → Bool
+changing saying = touches true saying
+
+-- The announcements at p and the Initialization Completes of all ports (document 02, W2).
 abbrev pub concerns : ℕ → Heard → Bool
-concerns p s = eqb (s .port) p && changing (saidBy (s .message))
+concerns p s = touches (eqb (s .port) p) (saidBy (s .message))
 
 -- What a message says, and who says it: for an announcement the block, whichever MTI and number it was written with.
 pub record Word : Type 0 where
@@ -133,6 +142,6 @@ pub record Word : Type 0 where
 abbrev pub wordOf : Heard → Word
 wordOf s = record { source = s .message .source; saying = saidBy (s .message) }
 
--- What the accepted ones at port p say, in the same order.
+-- What the accepted ones of them say, in the same order.
 unfoldable pub concerning : ℕ → List Heard → List Word
 concerning p h = map wordOf (without (λ s. not (concerns p s)) h)

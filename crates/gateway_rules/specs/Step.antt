@@ -1,4 +1,4 @@
--- What the box does with a message (document 01, "Gateway": "For a message accepted at port q"; order of refusals 7, 8, then reading).
+-- What the box does with a message (document 01, "Gateway": "For a message accepted at port q", as document 02, W2, has it; order of refusals 7, 8, then reading).
 use Prim.Native.Nat.{ℕ, _+_}
 use mathlib.Core.Bool.{Bool, true, false, cond, not, _&&_, _||_}
 use mathlib.Core.List.{List, [], _∷_, _++_}
@@ -33,13 +33,9 @@ unfoldable pub distinct : List Line → Bool
 distinct [] = true
 distinct (l ∷ lines) = not (has lines l) && distinct lines
 
--- The lines of a node.
+-- The lines of a node, at whichever port.
 abbrev pub ofNode : ℕ → Line → Bool
 ofNode n l = eqb (l .node) n
-
--- The lines of a node at a port.
-abbrev pub ownedAt : ℕ → ℕ → Line → Bool
-ownedAt port node l = eqb (l .port) port && eqb (l .node) node
 
 -- ---- how a message changes the state
 
@@ -57,14 +53,14 @@ adding g l = withLines g (g .lines ++ (l ∷ []))
 unfoldable pub announce : Gate → Line → Gate
 announce g l = cond (has (g .lines) l) g (cond (ltb (length (g .lines)) full) (adding g l) (opening g (l .port)))
 
--- Initialization Complete removes the source's lines at port q. An open mark stays.
-abbrev pub restart : Gate → ℕ → ℕ → Gate
-restart g q node = withLines g (without (ownedAt q node) (g .lines))
+-- Initialization Complete removes the source's lines at every port (document 02, W2), the rest keeping their order. An open mark stays.
+abbrev pub restart : Gate → ℕ → Gate
+restart g node = withLines g (without (ofNode node) (g .lines))
 
 -- An announcement and a restart change the state; nothing else does.
 abbrev pub hear : Gate → ℕ → ℕ → Saying → Gate
 hear g q node (Announcement b) = announce g (line q node b)
-hear g q node Restart = restart g q node
+hear g q node Restart = restart g node
 hear g q node (Report e) = g
 hear g q node (Inquiry role e) = g
 hear g q node (InquiryForAll destination) = g

@@ -4,19 +4,19 @@ use mathlib.Core.Path.{_≡_}
 use borrow.Author.Needs.{needs}
 use Rattle.gateway.specs.declared.state.Head.{Head}
 use Rattle.gateway.specs.State.{Lists, gateIn, headWith, linesIn, held}
-use Rattle.gateway_rules.specs.Step.{ownedAt, restart}
+use Rattle.gateway_rules.specs.Step.{ofNode, restart}
 use Rattle.basics.specs.Lists.{without}
 use Rattle.gateway.proofs.InBounds.{head-good, few-lines}
 use Rattle.gateway.proofs.step.restart.Statement.{statement}
 use Rattle.gateway.proofs.step.restart.Tie as tie
 
-restarted : (head : Head) (t after : Lists) (count port node : ℕ) → linesIn count after ≡ without (ownedAt port node) (linesIn (head .count) t)
-    → gateIn (headWith head (head .marks) count) after ≡ restart (gateIn head t) port node
+restarted : (head : Head) (t after : Lists) (count node : ℕ) → linesIn count after ≡ without (ofNode node) (linesIn (head .count) t)
+    → gateIn (headWith head (head .marks) count) after ≡ restart (gateIn head t) node
 unfolding gateIn
-restarted head t after count port node e = λ i. record { ports = head .ports; automatic = head .automatic; lines = e i; marked = gateIn head t .marked }
+restarted head t after count node e = λ i. record { ports = head .ports; automatic = head .automatic; lines = e i; marked = gateIn head t .marked }
 
-without-owned-requires : tie.Need-without-owned-requires
-without-owned-requires c κs =
+without-node-requires : tie.Need-without-node-requires
+without-node-requires c κs =
     let p = c .before .before .before .before .before .before .before .before in
     let a = p .args in
     let t = held (a .nodes) (a .starts) (a .ports) (a .sizes) in
@@ -38,9 +38,9 @@ returns : tie.Need-returns
 returns c =
     let a = c .before .before .before .before .before .before .before .before .before .before .before .before .before .before .before .before .before .args in
     let t = held (a .nodes) (a .starts) (a .ports) (a .sizes) in
-    restarted (a .head) t _ (c .before .before .before .before .before .before .before .before .without-owned .result) (a .port) (a .node) (c .before .before .before .before .before .before .before .before .without-owned .ensures)
+    restarted (a .head) t _ (c .before .before .before .before .before .before .before .before .without-node .result) (a .node) (c .before .before .before .before .before .before .before .before .without-node .ensures)
 
 pub restart-spec : {M : Type 1} → statement M
 restart-spec =
     tie.close
-    (tie.spec without-owned-requires same-length same-length-2 same-length-3 same-length-4 returns)
+    (tie.spec without-node-requires same-length same-length-2 same-length-3 same-length-4 returns)
