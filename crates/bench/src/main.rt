@@ -1,4 +1,4 @@
-// The bench: two boards on one leg of a box, restarted in turn, and a panel that tries them after each step.
+// The bench: two boards on one leg of a box, restarted in turn, one of them then carried to another leg, and a panel that tries them after each step.
 mod boards;
 mod words;
 mod yard;
@@ -9,6 +9,7 @@ use yard::PANEL;
 use yard::SEVEN;
 use yard::Yard;
 use yard::announces;
+use yard::carried;
 use yard::panel_tries;
 use yard::restarts;
 
@@ -22,7 +23,7 @@ fn main() {
         b"Board 7 announces again\n",
     );
     let y = in_turn(y, NINE, b"Board 9 restarts\n", b"Board 9 announces again\n");
-    midday(y);
+    moved(midday(y));
 }
 
 fn morning() -> Yard {
@@ -51,8 +52,22 @@ fn in_turn(y: Yard, who: usize, restarted: &[u8], announced: &[u8]) -> Yard {
 }
 
 // The secretary's story.
-fn midday(y: Yard) {
+fn midday(y: Yard) -> Yard {
     say(b"The yard: board 7 restarts at midday; board 9 has not, and its points still move\n");
     let y = restarts(y, SEVEN);
     panel_tries(y);
+    y
+}
+
+// The club's: what a board had announced on the leg that it left goes when it comes up on another.
+fn moved(y: Yard) {
+    say(b"Board 7 announces again, and is then carried from leg 1 to leg 3\n");
+    let y = carried(announces(y, SEVEN), SEVEN, 3);
+    panel_tries(y);
+    in_turn(
+        y,
+        SEVEN,
+        b"Board 7 comes up on leg 3\n",
+        b"Board 7 announces there\n",
+    );
 }
