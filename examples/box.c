@@ -1,5 +1,5 @@
-/* Two boards on one leg of a box: board 9 restarts, and what board 7 wants still comes to it. Prints a line a message, and why the panel's
- * report goes to the boards' leg or does not. */
+/* Two boards on one leg of a box: board 9 restarts, and what board 7 wants still comes to it. Then board 7 is carried to another leg. Prints a line a
+ * message, and why the panel's report goes to a leg or does not. */
 #include <inttypes.h>
 #include <stdio.h>
 
@@ -82,6 +82,12 @@ int main(void)
     restart("board 7 restarts", 2, BOARD_7);
     with_event("the panel reports", 0, 0x05B4, PANEL, POINTS);
     ask_why(2);
+    with_event("board 7 announces", 2, 0x04C4, BOARD_7, POINTS);
+    restart("board 7 comes up at port 3", 3, BOARD_7);
+    with_event("board 7 announces there", 3, 0x04C4, BOARD_7, POINTS);
+    with_event("the panel reports", 0, 0x05B4, PANEL, POINTS);
+    ask_why(2);
+    ask_why(3);
     ask_why(4);
     with_event("a node of zero", 0, 0x05B4, 0, POINTS);
     return 0;
