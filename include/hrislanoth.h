@@ -109,7 +109,7 @@ typedef struct {
 hrislanoth_answer hrislanoth_start(uint8_t ports, uint64_t automatic);
 
 /* A message at a port. 7 where the box is out of bounds, 8 where it has no such port, 1 to 5 where the message cannot be read. An Initialization Complete
- * takes the lines of its node at every port, and no other node's (document 02, W2). */
+ * takes the lines of its node at every port, and no other node's (document 02, W2); open marks stay. */
 hrislanoth_answer hrislanoth_receive(hrislanoth_gateway gateway, uint8_t port, const uint8_t *bytes, size_t length);
 
 /* The same in place, on the four lists of a box: 7 before all else where a list is not exactly 256 long, otherwise what hrislanoth_receive answers.

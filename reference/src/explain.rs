@@ -134,6 +134,25 @@ mod tests {
         assert!(text(&[whole, (0, REPORTED)]).contains(said));
     }
 
+    /// 02, W2: a board moves from leg 2 to leg 3; its line goes and the next one is the first, until it announces on leg 3.
+    #[test]
+    fn a_board_that_moves() {
+        let other = (1, "04C4 0A0000000007 0A00000000090001");
+        let moved = (3, "0100 0A0000000009 0A0000000009");
+        let expected = "3: leg 0 not sent: the report came in there
+3: leg 1 sent: line 0, board 0A0000000007 asked for 0A00000000090001
+3: leg 2 held back: nothing on that leg asks for 0A00000000090001
+3: leg 3 held back: nothing on that leg asks for 0A00000000090001
+5: leg 0 not sent: the report came in there
+5: leg 1 sent: line 0, board 0A0000000007 asked for 0A00000000090001
+5: leg 2 held back: nothing on that leg asks for 0A00000000090001
+5: leg 3 sent: line 1, board 0A0000000009 asked for 0A00000000090001
+";
+        let before = [(2, ANNOUNCED), other, moved, (0, REPORTED)];
+        let entries = [&before[..], &[(3, ANNOUNCED), (0, REPORTED)]].concat();
+        assert_eq!(text(&entries), expected);
+    }
+
     /// 02, W1: a leg that a full table opened.
     #[test]
     fn an_open_leg() {

@@ -109,7 +109,7 @@ impl Gateway {
             });
         }
         if message::is_initialization_complete(&message) {
-            self.restart(port, message.source);
+            self.restart(message.source);
         }
         Ok(sent)
     }
@@ -160,11 +160,11 @@ impl Gateway {
         self.open.insert(line.port);
     }
 
-    /// Removes one node's lines at one port, the rest keeping their order (01-scope, Gateway, third point).
-    fn restart(&mut self, port: u32, node: u64) {
+    /// Removes one node's lines at every port (02, W2), the rest keeping their order; an open mark stays (01-scope, Gateway, third point).
+    fn restart(&mut self, node: u64) {
         let mut kept = Vec::new();
         for line in &self.lines {
-            if line.port == port && line.node == node {
+            if line.node == node {
                 continue;
             }
             kept.push(*line);
@@ -185,6 +185,8 @@ pub fn holds(block: (u64, u32), event: u64) -> bool {
 
 #[cfg(test)]
 mod tests {
+    mod moves;
+
     use super::*;
     use crate::message::{has_destination, has_event, node_id_bytes};
 
@@ -307,7 +309,7 @@ mod tests {
         assert!(sent(&mut four, 0, &message(0x05B4, 9, 8)).is_empty());
     }
 
-    /// 01-scope, Traps: two boards on one leg; 04C6 announces nothing; the three others do.
+    /// 01-scope, Traps: two boards on one leg; 04C6 announces nothing; the three others do. 02, W2: the restart at port 1 takes the line at port 2 too.
     #[test]
     fn traps() {
         let mut four = gateway(4);
@@ -318,17 +320,19 @@ mod tests {
         assert_eq!(four.lines.len(), 3);
         sent(&mut four, 1, &message(0x04C7, 7, EVENT));
         assert_eq!(four.lines.len(), 3);
-        sent(&mut four, 1, &message(0x0100, 7, 0));
         assert_eq!(sent(&mut four, 0, &message(0x05B4, 1, EVENT)), [1, 2]);
-        sent(&mut four, 1, &message(0x0110, 9, 0));
-        assert_eq!(sent(&mut four, 0, &message(0x05B4, 1, EVENT)), [2]);
+        sent(&mut four, 1, &message(0x0100, 7, 0));
+        assert_eq!(sent(&mut four, 0, &message(0x05B4, 1, EVENT)), [1]);
         let left = Line {
-            port: 2,
-            node: 7,
+            port: 1,
+            node: 9,
             start: EVENT,
             k: 0,
         };
         assert_eq!(four.lines, [left]);
+        sent(&mut four, 1, &message(0x0110, 9, 0));
+        assert!(sent(&mut four, 0, &message(0x05B4, 1, EVENT)).is_empty());
+        assert!(four.lines.is_empty());
     }
 
     /// 01-scope, Gateway, second point, and Ranges: 0 and all ones announce the same line.
@@ -342,7 +346,7 @@ mod tests {
         assert_eq!(sent(&mut two, 0, &message(0x05B4, 1, 0)), [1]);
     }
 
-    /// 01-scope, Gateway, second and third points: full table, open mark, lines used again.
+    /// 01-scope, Gateway, second and third points: full table, open mark, lines used again. 02, W2: the last restart takes a line at another port.
     #[test]
     fn full_table() {
         let mut four = gateway(4);
@@ -365,6 +369,7 @@ mod tests {
         assert_eq!(four.lines.len(), 129);
         assert_eq!(four.lines[128].port, 3);
         sent(&mut four, 2, &message(0x0100, 9, 0));
+        assert_eq!(four.lines.len(), 128);
         assert_eq!(four.open, BTreeSet::from([2]));
     }
 
@@ -380,11 +385,11 @@ mod tests {
         }
     }
 
-    /// 00-order, demand 3, and 01-scope, Gateway: live taken from the accepted messages alone.
+    /// 00-order, demand 3 with 02, W2, and 01-scope, Gateway: live taken from the accepted messages alone.
     #[test]
     fn demand_three() {
         let mut dice = Dice(88172645463325252);
-        let mut openings = 0;
+        let (mut openings, mut moves) = (0, 0);
         for _ in 0..30 {
             let mut gateway = gateway(4);
             let mut accepted: Vec<(u32, Vec<u8>)> = Vec::new();
@@ -395,7 +400,7 @@ mod tests {
                 let node = 1 + dice.roll(3);
                 let event = EVENT + dice.roll(spread);
                 let mti = match dice.roll(12) {
-                    0 if dice.roll(20) == 0 => 0x0100,
+                    0 if dice.roll(20) == 0 => [0x0100, 0x0110][dice.roll(2) as usize],
                     1 => 0x04A4,
                     2 => 0x04C6,
                     3 => 0x05B4,
@@ -437,16 +442,20 @@ mod tests {
                     }
                 }
                 assert_eq!(gateway.open, opened);
+                if message::is_initialization_complete(&read) {
+                    let elsewhere = |line: &Line| line.node == node && line.port != port;
+                    moves += u32::from(before.lines.iter().any(elsewhere));
+                }
                 accepted.push((port, bytes));
             }
             for (place, line) in gateway.lines.iter().enumerate() {
                 assert!(!gateway.lines[..place].contains(line));
             }
         }
-        assert!(openings > 0);
+        assert!(openings > 0 && moves > 30);
     }
 
-    /// Whether an announcement at the port is live for the event, from the messages alone (00-order, demand 3).
+    /// Whether an announcement at the port is live for the event, from the messages alone (00-order, demand 3; 02, W2, "at any port").
     fn live(accepted: &[(u32, Vec<u8>)], port: u32, event: u64) -> bool {
         for (place, (at, bytes)) in accepted.iter().enumerate() {
             let message = message::read(bytes).unwrap();
@@ -456,11 +465,9 @@ mod tests {
             if *at != port || !holds(block, event) {
                 continue;
             }
-            let restarted = accepted[place + 1..].iter().any(|(later, bytes)| {
+            let restarted = accepted[place + 1..].iter().any(|(_, bytes)| {
                 let complete = message::read(bytes).unwrap();
-                *later == port
-                    && message::is_initialization_complete(&complete)
-                    && complete.source == message.source
+                message::is_initialization_complete(&complete) && complete.source == message.source
             });
             if !restarted {
                 return true;

@@ -286,6 +286,19 @@ mod tests {
         assert!(text("start 9\n").ends_with("  line 1: cannot be read\n"));
     }
 
+    /// 02, W2: a node's lines at two ports go by its restart at a third, the rest keep their order, and the open mark stays.
+    #[test]
+    fn a_board_that_moves() {
+        let laid = "box 4 8 0100000000000000 10 6\nlines 0 5 1 1 0a0000000007 5 0 1\nlines 1 5 2 2 0a0000000008 5 0 1\nlines 4 4 1 3 0a0000000007 9 0 0\n";
+        let restarted = "at 0: 0110 0a0000000007 0a0000000007\n";
+        let expected = "  0111; box 4 8 0100000000000000 10 3
+    0: 2 0a0000000008 0000000000000005 0
+    1: 2 0a0000000008 0000000000000006 0
+    2: 2 0a0000000008 0000000000000007 0
+";
+        assert!(text(&format!("{laid}{restarted}")).ends_with(expected));
+    }
+
     /// 02, W1: each reason as it is printed, the line with its place, node and block, a refusal alone; the state stays.
     #[test]
     fn reasons() {

@@ -130,6 +130,23 @@ mod tests {
         assert_eq!(String::from_utf8(trial_text(&example())).unwrap(), expected);
     }
 
+    /// 02, W2: a board with a line at port 1 comes up at port 3, where it announces anew; the line of the next Node ID stays.
+    #[test]
+    fn a_board_that_moves() {
+        let report = (0, bytes_of("05B4 0A0000000009 0A00000000010001"));
+        let file = file_of(&[
+            (1, bytes_of("04C4 0A0000000001 0A00000000010001")),
+            (2, bytes_of("04C4 0A0000000002 0A00000000010001")),
+            report.clone(),
+            (3, bytes_of("0110 0A0000000001 0A0000000001")),
+            report.clone(),
+            (3, bytes_of("04C4 0A0000000001 0A00000000010001")),
+            report,
+        ]);
+        let expected = "0 1011 1\n1 1101 2\n2 0110 2\n3 1110 1\n4 0010 1\n5 1110 2\n6 0011 2\n";
+        assert_eq!(String::from_utf8(trial_text(&file)).unwrap(), expected);
+    }
+
     /// 01-scope, Trial program: any other total length, n too large, more bytes.
     #[test]
     fn bad_files() {

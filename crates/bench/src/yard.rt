@@ -120,7 +120,7 @@ fn tries(y: Yard, slot: usize) {
     say(b"\n");
 }
 
-// Whether a message is sent to a leg.
+// Whether a message is sent to a leg of the four; any other number counts as the last.
 fn reaches(sent: u8, leg: u8) -> bool {
     match leg {
         0 => sent % 2 == 1,

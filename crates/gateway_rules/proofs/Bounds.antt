@@ -20,9 +20,9 @@ use Rattle.basics.specs.Lists.{any}
 use Rattle.basics.specs.Sets.{anyBelow}
 use Rattle.gateway_rules.specs.State.{Gate, full, badPorts, badLine, outOfBounds, startOf}
 use Rattle.gateway_rules.specs.Step.{line, ofNode, taken}
-use Rattle.basics.proofs.Lists.{any-append, length-without, without-none}
+use Rattle.basics.proofs.Lists.{any-append, without-none}
 use Rattle.gateway_rules.proofs.Said.{announcement-block}
-use Rattle.gateway_rules.proofs.Changes.{Change, change-of}
+use Rattle.gateway_rules.proofs.Changes.{Change, change-of, restart-few}
 use Rattle.gateway_rules.proofs.Changes.Change.{restarted, known, added, opened, passed}
 use Rattle.gateway_rules.proofs.Holding.{either-true, true-or-false}
 
@@ -66,7 +66,7 @@ module _ (g : Gate) (q : ℕ) (m : Message) (i : Bounded g) (port : q < g .ports
   bounded-change : {g′ : Gate} → Change g q m g′ → Bounded g′
   bounded-change (restarted e) = record {
     ports-ok = i .ports-ok;
-    few = le-trans (length-without (ofNode (m .source)) (g .lines)) (i .few);
+    few = le-trans (restart-few g q (m .source)) (i .few);
     lines-ok = without-none (badLine (g .ports)) (ofNode (m .source)) (g .lines) (i .lines-ok);
     marks-ok = i .marks-ok;
     automatic-ok = i .automatic-ok;

@@ -1,7 +1,7 @@
--- The ways in which an accepted message can change the state: one for each case of the document.
+-- The ways in which an accepted message can change the state: one for each case of the document. What a restart leaves is in `restart-has`.
 use Prim.Native.Nat.{ℕ, zero, suc, _≤_, _<_}
 use mathlib.Core.Path.{_≡_, refl, ap}
-use mathlib.Core.Bool.{Bool, true, false, cond}
+use mathlib.Core.Bool.{Bool, true, false, cond, not, _&&_}
 use mathlib.Core.List.{List, [], _∷_, _++_}
 use borrow.Author.Tests.{ltb-true, ltb-false}
 use lib.Dec.{ltb}
@@ -13,9 +13,12 @@ use Rattle.message.specs.declared.Saying.the-variants.{Report, Announcement, Re
 use Rattle.message.specs.Reading.{messageIn}
 use Rattle.message.specs.Saying.{saidBy}
 use Rattle.basics.specs.Refusals.{firstOf, answered}
+use Rattle.basics.proofs.Lists.{length-without}
+use Rattle.gateway_rules.specs.declared.Line.{Line}
 use Rattle.gateway_rules.specs.State.{Gate, full}
-use Rattle.gateway_rules.specs.Step.{line, has, adding, opening, announce, hear, taken, taking, refusing, stepTests, step}
+use Rattle.gateway_rules.specs.Step.{line, has, ofNode, adding, opening, announce, hear, taken, taking, refusing, stepTests, step}
 use Rattle.gateway_rules.specs.History.{Heard, leftBy, changing}
+use Rattle.gateway_rules.proofs.Lists.{has-without}
 
 pub data Change (g : Gate) (q : ℕ) (m : Message) : Gate → Type 0 where
   restarted : saidBy m ≡ Restart → Change g q m (hear g q (m .source) Restart)
@@ -48,6 +51,13 @@ change-of g q m = by-saying (saidBy m) refl
     by-saying (InquiryForAll to) e = passed (ap changing e)
     by-saying (Learn x) e = passed (ap changing e)
     by-saying Nothing e = passed (ap changing e)
+
+-- A line is there after a restart exactly where it was there before and is not of the node that restarts.
+pub restart-has : (g : Gate) (q n : ℕ) (l : Line) → has (hear g q n Restart .lines) l ≡ (not (ofNode n l) && has (g .lines) l)
+restart-has g q n l = has-without (ofNode n) (g .lines) l
+
+pub restart-few : (g : Gate) (q n : ℕ) → length (hear g q n Restart .lines) ≤ length (g .lines)
+restart-few g q n = length-without (ofNode n) (g .lines)
 
 -- A step keeps the state or takes the message: what is true of both is true of what it leaves.
 pub by-step : (g : Gate) (q : ℕ) (bytes : List ℕ) (P : Gate → Type 0) → P g → P (taken g q (messageIn bytes)) → P (step g q bytes .next)

@@ -102,8 +102,11 @@ opens-at-257 = (refl, refl)
 abbrev carrying : ℕ → ℕ → Heard
 carrying mti e = record { port = 1; message = record { mti = mti; source = board; destination = Absent; event = Present e } }
 
+abbrev restartingAt : ℕ → ℕ → Heard
+restartingAt port mti = record { port = port; message = record { mti = mti; source = board; destination = Absent; event = Absent } }
+
 abbrev restarting : ℕ → Heard
-restarting mti = record { port = 1; message = record { mti = mti; source = board; destination = Absent; event = Absent } }
+restarting mti = restartingAt 1 mti
 
 abbrev word : Saying → Word
 word saying = record { source = board; saying = saying }
@@ -117,7 +120,8 @@ pub same-words : (concerning 1 (carrying 0x04C4 7 ∷ carrying 0x04A4 0 ∷ rest
 unfolding concerning saidBy meaningOf blockOf run bitsEqual
 same-words = (refl, refl)
 
--- An announcement that comes in by another port is left out, and so is a report; a restart is not, whichever port it came in by.
-pub others-left-out : (concerning 2 (carrying 0x04C4 7 ∷ []) ++ concerning 1 (carrying 0x05B4 7 ∷ []) ≡ []) × (concerning 2 (restarting 0x0100 ∷ []) ≡ word Restart ∷ [])
+-- An announcement that comes in by another port is left out, and so is a report; a restart is not, and says the same whichever port it came in by.
+pub others-left-out : (concerning 2 (carrying 0x04C4 7 ∷ carrying 0x05B4 7 ∷ []) ++ concerning 1 (carrying 0x05B4 7 ∷ []) ≡ [])
+    × (concerning 2 (restartingAt 1 0x0100 ∷ restartingAt 2 0x0100 ∷ restartingAt 3 0x0110 ∷ []) ≡ word Restart ∷ word Restart ∷ word Restart ∷ [])
 unfolding concerning saidBy meaningOf
 others-left-out = (refl, refl)

@@ -16,13 +16,11 @@ use Rattle.message.specs.declared.Saying.the-variants.{Announcement, Restart}
 use Rattle.message.specs.Saying.{saidBy}
 use Rattle.gateway_rules.specs.declared.Line.{Line}
 use Rattle.gateway_rules.specs.State.{Gate, full}
-use Rattle.gateway_rules.specs.Step.{line, sameLine, has, ofNode}
-use Rattle.basics.specs.Lists.{without}
+use Rattle.gateway_rules.specs.Step.{line, sameLine, has, ofNode, hear}
 use Rattle.gateway_rules.specs.History.{Heard, changing, Announces, Restarts, Ends, Live, leftBy, Overflows, Opened, Holds}
-use Rattle.gateway_rules.proofs.Lists.{same-line, has-append, has-without}
-use Rattle.basics.proofs.Lists.{length-without}
+use Rattle.gateway_rules.proofs.Lists.{same-line, has-append}
 use Rattle.basics.proofs.Sinces.{by-end, since-none, since-new, since-old, since-end}
-use Rattle.gateway_rules.proofs.Changes.{Change, change-of, left-end}
+use Rattle.gateway_rules.proofs.Changes.{Change, change-of, restart-has, restart-few, left-end}
 use Rattle.gateway_rules.proofs.Changes.Change.{restarted, known, added, opened, passed}
 
 -- ---- live and opened, one message later
@@ -119,21 +117,21 @@ module _ (start : Gate) (h : List Heard) (s : Heard) (i : Holds start (leftBy st
 
   holds-step : {g′ : Gate} → Change g (s .port) (s .message) g′ → Holds start g′ h′
   holds-step (restarted e) = record {
-    live-lines = still-there (without (ofNode (s .message .source)) (g .lines))
+    live-lines = still-there (hear g (s .port) (s .message .source) Restart .lines)
         (λ l t stays.
-        has-without (ofNode (s .message .source)) (g .lines) l
+        restart-has g (s .port) (s .message .source) l
         ∙ ⊎-elim
-        (λ o. absurd (stays (record { node = sym (eqb-true (l .node) (s .message .source) o); says = e })))
+        (λ o. let f = eqb-true (l .node) (s .message .source) o in absurd (stays (record { node = cc; says = e })))
         (λ o. ap₂ (λ (x y : Bool). not x && y) o t)
         (true-or-false (ofNode (s .message .source) l)))
         (λ p n b a. absurd (not-both (saidBy (s .message)) b e (a .says)));
     lines-live = λ l t.
-        let k = both (not (ofNode (s .message .source) l)) (has (g .lines) l) (sym (has-without (ofNode (s .message .source)) (g .lines) l) ∙ t) in
+        let k = both (not (ofNode (s .message .source) l)) (has (g .lines) l) (sym (restart-has g (s .port) (s .message .source) l) ∙ t) in
         live-old (l .port) (l .node) (l .block) h s (i .lines-live l (k .1))
         (λ r. false≢true (sym (ap not (eq-eqb (l .node) (s .message .source) (sym (r .node)))) ∙ k .0));
     opened-marks = still-marked (λ p v. not-both (saidBy (s .message)) (v .block) e (v .announces .says));
     marks-opened = still-opened;
-    few = le-trans (length-without (ofNode (s .message .source)) (g .lines)) (i .few);
+    few = le-trans (restart-few g (s .port) (s .message .source)) (i .few);
   }
   holds-step (known b e t) = record {
     live-lines = still-there (g .lines) (λ l u _. u) (λ p n b′ a. inl (ap (has (g .lines)) (announced-line a e) ∙ t));

@@ -8,10 +8,9 @@ use lib.ListN.{length, length-append}
 use Rattle.message.specs.declared.Message.{Message}
 use Rattle.message.specs.Reading.{messageIn}
 use Rattle.basics.proofs.Firsts.{first-up-to}
-use Rattle.basics.proofs.Lists.{length-without}
 use Rattle.gateway_rules.specs.State.{Gate, full}
-use Rattle.gateway_rules.specs.Step.{line, ofNode, stepTests, step}
-use Rattle.gateway_rules.proofs.Changes.{Change, change-of, by-step}
+use Rattle.gateway_rules.specs.Step.{line, stepTests, step}
+use Rattle.gateway_rules.proofs.Changes.{Change, change-of, restart-few, by-step}
 use Rattle.gateway_rules.proofs.Changes.Change.{restarted, known, added, opened, passed}
 use Rattle.gateway_rules.proofs.Sending.{refusal-first}
 
@@ -21,7 +20,7 @@ step-up-to g q bytes = omega (arith, refusal-first g q bytes, first-up-to 8 (ste
 
 -- A table of at most 256 lines stays one.
 few-changed : (g : Gate) (q : ℕ) (m : Message) → length (g .lines) ≤ full → {g′ : Gate} → Change g q m g′ → length (g′ .lines) ≤ full
-few-changed g q m h (restarted e) = le-trans (length-without (ofNode (m .source)) (g .lines)) h
+few-changed g q m h (restarted e) = le-trans (restart-few g q (m .source)) h
 few-changed g q m h (known b e t) = h
 few-changed g q m h (added b e f room) = omega (arith, length-append (g .lines) (line q (m .source) b ∷ []), room)
 few-changed g q m h (opened b e f most) = h

@@ -1,16 +1,23 @@
--- W2 by computation: a board that is carried from leg 1 to leg 3, and two boards with one Node ID.
+-- W2 by computation: a board that is carried from leg 1 to leg 3, two boards with one Node ID, what a restart leaves in its order, and what it does not end.
 use Prim.Native.Nat.{ℕ}
 use mathlib.Core.Path.{_≡_, refl}
+use mathlib.Core.Bool.{true}
 use mathlib.Core.List.{List, [], _∷_}
+use native.Mathlib.Omega.{arith}
+use lib.Dec.{eqb}
 use Rattle.numbers.specs.Numbers.{spelled, bytesOf}
-use Rattle.range.specs.Range.{bitsEqual, run, isBlock, hasNumber, inBlock, blockOf, house, sameBlock}
+use Rattle.range.specs.Range.{bitsEqual, run, isBlock, hasNumber, inBlock, single, blockOf, house, sameBlock}
+use Rattle.message.specs.declared.Field.{Field}
+use Rattle.message.specs.declared.Field.the-variants.{Present, Absent}
+use Rattle.message.specs.declared.Saying.the-variants.{Restart}
 use Rattle.message.specs.Mti.{meaningOf}
 use Rattle.message.specs.Messages.{badNodes, badContent, otherSource}
 use Rattle.message.specs.Reading.{fieldsIn}
 use Rattle.message.specs.Saying.{saidBy}
-use Rattle.gateway_rules.specs.State.{outOfBounds, startOf}
-use Rattle.gateway_rules.specs.Step.{announce, taken, wants, goesTo, step}
-use Rattle.gateway_rules.specs.History.{Entry}
+use Rattle.basics.specs.Since.Never.{nothing, nor}
+use Rattle.gateway_rules.specs.State.{Gate, outOfBounds, startOf}
+use Rattle.gateway_rules.specs.Step.{line, announce, hear, taken, wants, goesTo, step}
+use Rattle.gateway_rules.specs.History.{Entry, Heard, Restarts, Live}
 use Rattle.gateway_rules.proofs.Examples.{entry, withEvent, initialized, printed, row}
 
 -- A node's announcement of an event, its restart, and the panel's report of an event, which comes in by port 0.
@@ -60,3 +67,33 @@ pub one-node-lines : printed (startOf 4 house) oneNode
     ≡ row 0 1 0 1 1 1 ∷ row 0 1 1 0 1 2 ∷ row 0 1 0 1 1 3 ∷ row 0 1 0 1 1 1 ∷ row 0 0 0 0 0 1 ∷ row 0 1 0 1 1 2 ∷ row 0 0 1 0 0 2 ∷ row 0 1 1 0 1 1 ∷ row 0 0 0 0 0 1 ∷ row 0 0 1 0 0 1 ∷ []
 unfolding step outOfBounds isBlock hasNumber inBlock blockOf run bitsEqual sameBlock wants goesTo taken announce saidBy meaningOf fieldsIn badNodes badContent otherSource spelled bytesOf
 one-node-lines = refl
+
+-- ---- what a restart leaves, and what it does not end
+
+abbrev mixed : Gate
+mixed = record {
+  ports = 4;
+  automatic = blockOf house;
+  lines = line 1 7 (single 70) ∷ line 2 8 (single 70) ∷ line 3 7 (single 71) ∷ line 1 9 (single 90) ∷ line 1 6 (single 70) ∷ line 2 7 (single 70) ∷ line 1 8 (single 80) ∷ [];
+  marked = λ p. eqb p 2;
+}
+
+-- Of a table with lines of board 7 at three ports, those of the others, its neighbours' too, in their order; and the open mark.
+pub rest-in-order : (hear mixed 0 7 Restart .lines ≡ line 2 8 (single 70) ∷ line 1 9 (single 90) ∷ line 1 6 (single 70) ∷ line 1 8 (single 80) ∷ [])
+    × (hear mixed 0 7 Restart .marked 2 ≡ true)
+rest-in-order = (refl, refl)
+
+abbrev said : ℕ → ℕ → ℕ → Field → Heard
+said port mti node event = record { port = port; message = record { mti = mti; source = node; destination = Absent; event = event } }
+
+-- What board 7 announced at port 1 is live after board 8 has restarted there.
+pub not-ended : Live (said 1 0x04C4 7 (Present 70) ∷ said 1 0x0100 8 Absent ∷ []) 1 7 (single 70)
+unfolding Live saidBy meaningOf
+not-ended = record {
+  before = [];
+  by = said 1 0x04C4 7 (Present 70);
+  later = said 1 0x0100 8 Absent ∷ [];
+  split = refl;
+  started = record { here = refl; sender = refl; says = refl };
+  lasting = nor (λ (r : Restarts 7 (said 1 0x0100 8 Absent)). omega (arith, r .node)) nothing;
+}

@@ -1,7 +1,7 @@
 -- G4: no node's message removes another node's line, and of its own lines only its restart removes any: then all of them, at every port.
 use Prim.Native.Nat.{ℕ}
 use mathlib.Core.Path.{_≡_, refl, ap, _∙_}
-use mathlib.Core.Logic.{_⊎_, inl, inr, ⊎-elim}
+use mathlib.Core.Logic.{inl, inr, ⊎-elim}
 use mathlib.Core.Bool.{Bool, false, cond}
 use mathlib.Core.List.{List, [], _∷_, _++_, append-nil}
 use borrow.Author.Tests.{eq-eqb}
@@ -13,9 +13,8 @@ use Rattle.message.specs.Reading.{messageIn}
 use Rattle.message.specs.Saying.{saidBy}
 use Rattle.basics.specs.Lists.{any, without}
 use Rattle.basics.proofs.Lists.{none-stays, without-append, without-again}
-use Rattle.gateway_rules.specs.declared.Line.{Line}
 use Rattle.gateway_rules.specs.State.{Gate}
-use Rattle.gateway_rules.specs.Step.{line, ofNode, hear, taken, Outcome, step}
+use Rattle.gateway_rules.specs.Step.{line, ofNode, Gained, hear, taken, Outcome, step}
 use Rattle.gateway_rules.specs.History.{Heard, Restarts, Live}
 use Rattle.gateway_rules.proofs.Changes.{Change, change-of, by-step}
 use Rattle.gateway_rules.proofs.Changes.Change.{restarted, known, added, opened, passed}
@@ -42,10 +41,6 @@ others-lines g q bytes =
     by-step g q bytes (λ (x : Gate). without (ofNode (m .source)) (x .lines) ≡ without (ofNode (m .source)) (g .lines)) refl (others-change g q m (change-of g q m))
 
 -- ---- the sender's own
-
--- All lines stand where they stood, and at most one of a node at a port stands behind them.
-abbrev pub Gained : ℕ → ℕ → List Line → List Line → Type 0
-Gained q n lines later = (later ≡ lines) ⊎ ((b : Block) × (later ≡ lines ++ (line q n b ∷ [])))
 
 gained-change : (g : Gate) (q : ℕ) (m : Message) → (saidBy m ≡ Restart → ⊥) → {g′ : Gate} → Change g q m g′ → Gained q (m .source) (g .lines) (g′ .lines)
 gained-change g q m other (restarted e) = absurd (other e)

@@ -1,8 +1,8 @@
--- G5, sharing: what a port is answered depends on what the announcements at that port and the restarts at all ports say, and on nothing else, while no port opens.
+-- G5, sharing: what a port is answered depends on what the announcements at that port and the restarts at all ports say, on the port count and the automatic block, and on nothing else, while no port opens.
 use Prim.Native.Nat.{ℕ, _<_}
 use mathlib.Core.Path.{_≡_, refl, sym, ap, ap₂, _∙_, subst}
-use mathlib.Core.Logic.{⊎-elim}
-use mathlib.Core.Bool.{Bool, true, false, cond, not, true≢false}
+use mathlib.Core.Logic.{_⊎_, _↔_, inl, inr, ⊎-elim}
+use mathlib.Core.Bool.{Bool, true, false, cond, not, true≢false, false≢true}
 use mathlib.Core.List.{List, [], _∷_, _++_, append-nil, map, map-append}
 use borrow.Author.Tests.{eq-eqb, eqb-true}
 use lib.Dec.{eqb}
@@ -14,7 +14,7 @@ use Rattle.gateway_rules.specs.State.{Gate, startOf}
 use Rattle.basics.specs.Lists.{without}
 use Rattle.basics.specs.Since.{Since}
 use Rattle.message.specs.declared.Saying.{Saying}
-use Rattle.message.specs.declared.Saying.the-variants.{Announcement, Restart}
+use Rattle.message.specs.declared.Saying.the-variants.{Report, Announcement, Restart, Inquiry, InquiryForAll, Learn, Nothing}
 use Rattle.message.specs.Saying.{saidBy}
 use Rattle.gateway_rules.specs.Step.{Outcome, step, startTests, starting, start}
 use Rattle.gateway_rules.specs.History.{Entry, after, Heard, heardOf, accepted, Announces, Restarts, Live, Opened, Reports, HeldBack, touches, concerns, Word, wordOf, concerning}
@@ -36,6 +36,22 @@ concerns-restarted {s = s} p r = ap (touches (eqb (s .port) p)) (r .says)
 -- An announcement that concerns a port came in there.
 came-in : {b : Block} (p : ℕ) (s : Heard) → concerns p s ≡ true → saidBy (s .message) ≡ Announcement b → s .port ≡ p
 came-in p s t e = eqb-true (s .port) p (sym (ap (touches (eqb (s .port) p)) e) ∙ t)
+
+-- What sharing compares for p: an announcement that came in there, a restart at any port, and nothing else.
+pub concerns-exactly : (p : ℕ) (s : Heard) → (concerns p s ≡ true) ↔ (((n : ℕ) × (b : Block) × Announces p n b s) ⊎ ((n : ℕ) × Restarts n s))
+concerns-exactly p s = (λ t. by-saying (saidBy (s .message)) refl t, ⊎-elim (λ a. concerns-announced (a .2)) (λ r. concerns-restarted p (r .1)))
+  where
+    other : {w : Saying} → saidBy (s .message) ≡ w → touches (eqb (s .port) p) w ≡ false → concerns p s ≡ true → ⊥
+    other e f t = false≢true (sym f ∙ sym (ap (touches (eqb (s .port) p)) e) ∙ t)
+
+    by-saying : (w : Saying) → saidBy (s .message) ≡ w → concerns p s ≡ true → ((n : ℕ) × (b : Block) × Announces p n b s) ⊎ ((n : ℕ) × Restarts n s)
+    by-saying (Announcement b) e t = inl (s .message .source, b, record { here = came-in p s t e; sender = refl; says = e })
+    by-saying Restart e t = inr (s .message .source, record { node = refl; says = e })
+    by-saying (Report x) e t = absurd (other e refl t)
+    by-saying (Inquiry role x) e t = absurd (other e refl t)
+    by-saying (InquiryForAll to) e t = absurd (other e refl t)
+    by-saying (Learn x) e t = absurd (other e refl t)
+    by-saying Nothing e t = absurd (other e refl t)
 
 -- ---- live by words alone
 

@@ -1,5 +1,7 @@
 -- What the box does with a message (document 01, "Gateway": "For a message accepted at port q", as document 02, W2, has it; order of refusals 7, 8, then reading).
 use Prim.Native.Nat.{ℕ, _+_}
+use mathlib.Core.Path.{_≡_}
+use mathlib.Core.Logic.{_⊎_}
 use mathlib.Core.Bool.{Bool, true, false, cond, not, _&&_, _||_}
 use mathlib.Core.List.{List, [], _∷_, _++_}
 use lib.Dec.{eqb, leb, ltb}
@@ -27,6 +29,10 @@ sameLine a b = eqb (a .port) (b .port) && (eqb (a .node) (b .node) && sameBlock 
 -- A line already there.
 abbrev pub has : List Line → Line → Bool
 has lines l = any (sameLine l) lines
+
+-- All lines stand where they stood, and at most one more, of a node at a port, stands behind them.
+abbrev pub Gained : ℕ → ℕ → List Line → List Line → Type 0
+Gained port node lines later = (later ≡ lines) ⊎ ((b : Block) × (later ≡ lines ++ (line port node b ∷ [])))
 
 -- Lines that are all different.
 unfoldable pub distinct : List Line → Bool

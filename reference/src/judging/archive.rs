@@ -6,7 +6,6 @@ use super::archive_boards::Archive;
 use super::command::{self, Amounts, Judge, Options};
 use super::counts::{self, Column, Columns};
 use super::random::Dice;
-use super::rows::Row;
 use super::sort::Sort;
 use super::witness::Witness;
 use super::{boards, boxes, calls, messages, ranges, trials, verdict};
@@ -61,7 +60,7 @@ fn differs(seed: u64, sort: Sort, index: u64, column: &mut Column) -> bool {
 
 /// Makes one input and compares the answers.
 fn judge(seed: u64, sort: Sort, index: u64, witness: &mut Witness) {
-    witness.column.saw(Row::Inputs);
+    witness.column.saw_input();
     let mut dice = Dice::of_input(seed, sort as u64, index);
     match sort {
         Sort::Range => ranges::judge(&mut dice, witness),

@@ -98,7 +98,8 @@ fn judge_refused_start(dice: &mut Dice, witness: &mut Witness, calls: &impl Call
         return;
     };
     let world = World::new(dice, 2, 2, automatic);
-    let arrivals = history_in(dice, 8, world);
+    let (other, _) = gateway::Gateway::start(8, automatic.number);
+    let arrivals = history_in(dice, other, world);
     follow(
         dice,
         witness,
@@ -118,7 +119,7 @@ fn judge_layout(dice: &mut Dice, witness: &mut Witness, calls: &impl Calls) {
     let boxes = Boxes::of_layout(dice, &layout);
     let reports = (0..4).filter_map(|_| layout.report_of_a_line(dice, &world));
     let mut arrivals: Vec<Arrival> = reports.collect();
-    arrivals.extend(history_in(dice, layout.ports, world));
+    arrivals.extend(history_in(dice, layout.for_reference(), world));
     follow(dice, witness, calls, boxes, &arrivals);
 }
 
@@ -127,7 +128,7 @@ fn judge_out_of_bounds(dice: &mut Dice, witness: &mut Witness, calls: &impl Call
     let automatic = Area::any_automatic(dice);
     let world = World::new(dice, 3, 40, automatic);
     let mut layout = Layout::in_bounds(dice, &world, automatic);
-    let arrivals = history_in(dice, layout.ports, world);
+    let arrivals = history_in(dice, layout.for_reference(), world);
     let way = dice.between(0, BOX_WAY_COUNT - 1);
     layout.spoil(dice, way);
     witness.column.saw(Row::BoxWay(way));

@@ -1,6 +1,6 @@
 //! What was seen, a column for each sort of input, and the table of it.
 
-use std::collections::BTreeMap;
+use std::collections::{BTreeMap, BTreeSet};
 
 use crate::call::Call;
 use crate::node::{Answer, INITIALIZED, MOST_REPLY_BYTES};
@@ -14,15 +14,32 @@ use super::sort::Sort;
 
 /// What was seen of one sort: each row that was reached, and how many times.
 #[derive(Clone, Default)]
-pub struct Column(BTreeMap<Row, u64>);
+pub struct Column {
+    times: BTreeMap<Row, u64>,
+    /// The rows that count once an input and were reached by the one at hand.
+    once: BTreeSet<Row>,
+}
 
 /// The columns of all sorts.
 pub type Columns = [Column; Sort::ALL.len()];
 
 impl Column {
+    /// An input begins.
+    pub fn saw_input(&mut self) {
+        self.once.clear();
+        self.saw(Row::Inputs);
+    }
+
     /// The row was reached.
     pub fn saw(&mut self, row: Row) {
-        *self.0.entry(row).or_default() += 1;
+        *self.times.entry(row).or_default() += 1;
+    }
+
+    /// The row was reached, which counts once an input.
+    pub fn saw_once(&mut self, row: Row) {
+        if self.once.insert(row) {
+            self.saw(row);
+        }
     }
 
     /// A function's answer, by the reference: its refusal, or 0.
@@ -57,12 +74,12 @@ impl Column {
 
     /// How many times the row was reached.
     pub fn seen(&self, row: Row) -> u64 {
-        self.0.get(&row).copied().unwrap_or(0)
+        self.times.get(&row).copied().unwrap_or(0)
     }
 
     /// The rows that were reached.
     pub fn reached(&self) -> impl Iterator<Item = Row> + '_ {
-        self.0.keys().copied()
+        self.times.keys().copied()
     }
 }
 
@@ -102,4 +119,24 @@ fn cell(seen: u64, can_be: bool) -> String {
 fn print_cells(label: &str, sorts: &[Sort], cell: impl Fn(Sort) -> String) {
     let cells = sorts.iter().map(|sort| format!("{:>10}", cell(*sort)));
     say(format!("{label:48}{}", cells.collect::<String>()));
+}
+
+#[cfg(test)]
+mod tests {
+    use super::*;
+
+    /// What counts once an input counts again for the next one, and what counts each time does so.
+    #[test]
+    fn once_an_input() {
+        let mut column = Column::default();
+        for _ in 0..3 {
+            column.saw_input();
+            for _ in 0..2 {
+                column.saw_once(Row::BoardMoved);
+                column.saw(Row::PortOpened);
+            }
+        }
+        let rows = [Row::Inputs, Row::BoardMoved, Row::PortOpened];
+        assert_eq!(rows.map(|row| column.seen(row)), [3, 3, 6]);
+    }
 }

@@ -1,5 +1,8 @@
-//! Histories of a box: messages one after the other that fill its table, open its ports, restart its nodes and report events.
+//! Histories of a box: messages one after the other that fill its table, open its ports, restart and move its nodes and report events.
 
+use crate::gateway::{Gateway, MOST_LINES};
+
+use super::moves::any_move;
 use super::parts::{any_mti, bytes_damaged_at_times, Parts};
 use super::random::Dice;
 use super::witness::Hex;
@@ -26,6 +29,8 @@ struct Mix {
     range: u64,
     report: u64,
     restart: u64,
+    /// Some messages at once: a board moves.
+    moving: u64,
     repetition: u64,
     other: u64,
     damaged: u64,
@@ -37,6 +42,7 @@ const EVEN: Mix = Mix {
     range: 10,
     report: 30,
     restart: 8,
+    moving: 8,
     repetition: 7,
     other: 20,
     damaged: 20,
@@ -47,18 +53,20 @@ const FILLING: Mix = Mix {
     range: 8,
     report: 3,
     restart: 0,
+    moving: 0,
     repetition: 2,
     other: 1,
     damaged: 2,
 };
-/// What a full table goes through.
+/// What a full table goes through; a restart takes a node's lines at every port, so that more of them would keep the table from being full again.
 const AT_THE_LIMIT: Mix = Mix {
-    announcement: 35,
-    range: 8,
-    report: 30,
-    restart: 6,
-    repetition: 12,
-    other: 4,
+    announcement: 70,
+    range: 16,
+    report: 60,
+    restart: 3,
+    moving: 3,
+    repetition: 24,
+    other: 8,
     damaged: 5,
 };
 /// Ranges and reports at their edges.
@@ -67,6 +75,7 @@ const RANGES: Mix = Mix {
     range: 35,
     report: 50,
     restart: 3,
+    moving: 4,
     repetition: 5,
     other: 2,
     damaged: 3,
@@ -76,30 +85,37 @@ const RANGES: Mix = Mix {
 struct Maker<'a> {
     dice: &'a mut Dice,
     world: World,
-    ports: u8,
+    /// The reference's box after the messages so far, whose lines a move is made of.
+    gateway: Gateway,
     arrivals: Vec<Arrival>,
 }
 
-/// A history of a box with so many ports, at most 800 messages.
+/// A history of a box with so many ports, at most 900 messages.
 pub fn any_history(dice: &mut Dice, ports: u8, automatic: Area) -> Vec<Arrival> {
-    match dice.weighted(&[50, 20, 10, 20]) {
+    let start = started(ports, automatic);
+    match dice.weighted(&[50, 15, 15, 20]) {
         0 => {
             let world = any_world(dice, automatic, (1, 4), (1, 12));
-            history_in(dice, ports, world)
+            history_in(dice, start, world)
         }
         1 => {
             let world = any_world(dice, automatic, (1, 6), (300, 700));
-            full_history(dice, ports, world)
+            full_history(dice, start, world)
         }
         2 => {
             let world = any_world(dice, automatic, (60, 120), (4, 30));
-            full_history(dice, ports, world)
+            full_history(dice, start, world)
         }
         _ => {
             let world = any_world(dice, automatic, (1, 3), (1, 6));
-            history_of_ranges(dice, ports, world)
+            history_of_ranges(dice, start, world)
         }
     }
+}
+
+/// The reference's box that is started so.
+fn started(ports: u8, automatic: Area) -> Gateway {
+    Gateway::start(ports.into(), automatic.number).0
 }
 
 /// A world with as many nodes and events as the limits allow.
@@ -114,61 +130,95 @@ fn any_world(
     World::new(dice, nodes, events, automatic)
 }
 
-/// A short history of everything in a world of the caller's.
-pub fn history_in(dice: &mut Dice, ports: u8, world: World) -> Vec<Arrival> {
-    let mut maker = Maker::new(dice, ports, world);
+/// A short history of everything in a world of the caller's, from a state in bounds on.
+pub fn history_in(dice: &mut Dice, from: Gateway, world: World) -> Vec<Arrival> {
+    let mut maker = Maker::new(dice, from, world);
     maker.take(EVEN, (1, 60));
     maker.arrivals
 }
 
 /// A history that fills the table and goes on from there.
-fn full_history(dice: &mut Dice, ports: u8, mut world: World) -> Vec<Arrival> {
+fn full_history(dice: &mut Dice, from: Gateway, mut world: World) -> Vec<Arrival> {
     world.longest_run = dice.pick(&[3, 3, 12, 64]);
-    let mut maker = Maker::new(dice, ports, world);
-    maker.take(FILLING, (220, 420));
+    let mut maker = Maker::new(dice, from, world);
+    maker.fill((220, 420));
     maker.take(AT_THE_LIMIT, (20, 350));
     maker.arrivals
 }
 
 /// A history of ranges of every size.
-fn history_of_ranges(dice: &mut Dice, ports: u8, world: World) -> Vec<Arrival> {
-    let mut maker = Maker::new(dice, ports, world);
+fn history_of_ranges(dice: &mut Dice, from: Gateway, world: World) -> Vec<Arrival> {
+    let mut maker = Maker::new(dice, from, world);
     maker.take(RANGES, (5, 150));
     maker.arrivals
 }
 
-/// A history of exactly so many messages, the table full in most of it.
+/// A history of exactly so many messages, the table full or nearly so in most of it.
 pub fn long_history(dice: &mut Dice, ports: u8, automatic: Area, length: usize) -> Vec<Arrival> {
-    let mut world = any_world(dice, automatic, (1, 8), (200, 500));
+    let mut world = any_world(dice, automatic, (1, 30), (200, 500));
     world.longest_run = dice.pick(&[3, 64]);
-    let mut maker = Maker::new(dice, ports, world);
+    let mut maker = Maker::new(dice, started(ports, automatic), world);
     let filling = length.min(300);
-    maker.take(FILLING, (filling, filling));
-    maker.take(AT_THE_LIMIT, (length - filling, length - filling));
+    maker.fill((filling, filling));
+    let rest = length.saturating_sub(maker.arrivals.len());
+    maker.take(AT_THE_LIMIT, (rest, rest));
+    maker.arrivals.truncate(length);
     maker.arrivals
 }
 
 impl<'a> Maker<'a> {
-    /// An empty history.
-    fn new(dice: &'a mut Dice, ports: u8, world: World) -> Maker<'a> {
+    /// An empty history, from a state in bounds on.
+    fn new(dice: &'a mut Dice, from: Gateway, world: World) -> Maker<'a> {
         Maker {
             dice,
             world,
-            ports,
+            gateway: from,
             arrivals: Vec::new(),
         }
     }
 
-    /// Adds messages of a mix, their number within the limits.
+    /// Adds messages of a mix, their number within the limits, but for a move at the end, which is not cut short.
     fn take(&mut self, mix: Mix, length: (usize, usize)) {
-        for _ in 0..self.dice.between(length.0, length.1) {
-            let arrival = self.next(&mix);
-            self.arrivals.push(arrival);
+        self.take_until(|_| false, mix, length);
+    }
+
+    /// The same, ended earlier where the box has come to a state of that kind.
+    fn take_until(&mut self, there: fn(&Gateway) -> bool, mix: Mix, length: (usize, usize)) {
+        let end = self.arrivals.len() + self.dice.between(length.0, length.1);
+        while self.arrivals.len() < end && !there(&self.gateway) {
+            let arrivals = self.next(&mix);
+            self.add(arrivals);
         }
     }
 
-    /// The next message of a mix.
-    fn next(&mut self, mix: &Mix) -> Arrival {
+    /// Fills the table, at times after a first move; as often as not only until it is full, before a port is opened, and then a board moves.
+    fn fill(&mut self, length: (usize, usize)) {
+        if self.dice.chance(60) {
+            self.move_a_board();
+        }
+        if self.dice.chance(50) {
+            return self.take(FILLING, length);
+        }
+        self.take_until(|gateway| gateway.lines.len() == MOST_LINES, FILLING, length);
+        self.move_a_board();
+    }
+
+    /// Adds a move.
+    fn move_a_board(&mut self) {
+        let arrivals = any_move(self.dice, &self.gateway, &self.world);
+        self.add(arrivals);
+    }
+
+    /// Adds messages.
+    fn add(&mut self, arrivals: Vec<Arrival>) {
+        for arrival in &arrivals {
+            self.gateway.receive(arrival.port.into(), &arrival.bytes);
+        }
+        self.arrivals.extend(arrivals);
+    }
+
+    /// The next message of a mix, or the messages of a move.
+    fn next(&mut self, mix: &Mix) -> Vec<Arrival> {
         let weights = [
             mix.announcement,
             mix.range,
@@ -176,6 +226,7 @@ impl<'a> Maker<'a> {
             mix.restart,
             mix.other,
             mix.repetition,
+            mix.moving,
         ];
         let parts = match self.dice.weighted(&weights) {
             0 => self.of_any(&[0x04C4, 0x04C5, 0x04C7]),
@@ -183,12 +234,13 @@ impl<'a> Maker<'a> {
             2 => self.report(),
             3 => self.of_any(&[0x0100, 0x0110]),
             4 => self.other(),
-            _ => return self.repetition(),
+            5 => return vec![self.repetition()],
+            _ => return any_move(self.dice, &self.gateway, &self.world),
         };
-        Arrival {
+        vec![Arrival {
             port: self.port(),
             bytes: bytes_damaged_at_times(self.dice, parts, mix.damaged),
-        }
+        }]
     }
 
     /// A message of one of these MTIs.
@@ -235,10 +287,11 @@ impl<'a> Maker<'a> {
 
     /// A port that is there, or at times one that is not.
     fn port(&mut self) -> u8 {
+        let ports = self.gateway.ports as u8;
         if self.dice.chance(2) {
-            return self.dice.pick(&[self.ports, self.ports + 1, 255]);
+            return self.dice.pick(&[ports, ports + 1, 255]);
         }
-        self.dice.below(u64::from(self.ports)) as u8
+        self.dice.below(u64::from(ports)) as u8
     }
 }
 
@@ -246,4 +299,23 @@ impl<'a> Maker<'a> {
 pub fn event_in(arrival: &Arrival) -> Option<u64> {
     let field = arrival.bytes.get(8..16)?;
     field.try_into().ok().map(u64::from_be_bytes)
+}
+
+#[cfg(test)]
+mod tests {
+    use super::*;
+
+    /// A long history is exactly as long as it is to be, moves or not, and any history fits into a trial file with a question behind it.
+    #[test]
+    fn lengths() {
+        for index in 0..100 {
+            let mut dice = Dice::of_input(1, 1, index);
+            for length in [1, 299, 300, 320, 1_002] {
+                let history = long_history(&mut dice, 4, Area::house(), length);
+                assert_eq!(history.len(), length);
+            }
+            let history = any_history(&mut dice, 4, Area::house());
+            assert!((1..=900).contains(&history.len()));
+        }
+    }
 }

@@ -23,6 +23,7 @@ pub mod laid_out;
 pub mod lengths;
 #[cfg(feature = "proved")]
 mod messages;
+pub mod moves;
 pub mod observed;
 pub mod output;
 pub mod parts;
@@ -38,6 +39,10 @@ pub mod sort;
 mod stand_in;
 #[cfg(test)]
 mod stand_in_box;
+#[cfg(test)]
+mod stand_in_restarts;
+#[cfg(test)]
+mod stand_in_why;
 pub mod texts;
 pub mod trial_files;
 #[cfg(feature = "proved")]

@@ -1,7 +1,9 @@
 //! The reference's box and board, with a count of what they went through.
 
+use std::collections::BTreeSet;
+
 use crate::board;
-use crate::gateway::{Gateway, Outcome, MOST_LINES};
+use crate::gateway::{Gateway, Line, Outcome, MOST_LINES};
 use crate::refusal;
 use crate::trial::{self, Entry, HOUSE_NUMBER, PORTS};
 use crate::why::Reason;
@@ -9,27 +11,62 @@ use crate::why::Reason;
 use super::counts::Column;
 use super::functions::Function;
 use super::histories::Arrival;
-use super::rows::Row;
+use super::rows::{Move, Row};
+use super::world::low_bits;
 
 /// Puts a message to the reference and counts what came of it.
 pub fn receive(gateway: &mut Gateway, arrival: &Arrival, column: &mut Column) -> Outcome {
-    let lines_before = gateway.lines.len();
-    let open_before = gateway.open.len();
+    let before = gateway.clone();
     let outcome = gateway.receive(u32::from(arrival.port), &arrival.bytes);
     column.saw_answer(Function::Receive, outcome.refusal);
     if outcome.refusal == refusal::NONE {
         column.saw(sent_row(outcome.sent.len(), gateway.ports as usize));
     }
-    if gateway.open.len() > open_before {
+    if gateway.open.len() > before.open.len() {
         column.saw(Row::PortOpened);
     }
-    if gateway.lines.len() > lines_before {
-        column.saw(Row::of_block(gateway.lines[lines_before].k));
+    if let Some(added) = gateway.lines.get(before.lines.len()) {
+        column.saw(Row::of_block(added.k));
         if gateway.lines.len() == MOST_LINES {
             column.saw(Row::TableFilled);
         }
     }
+    if gateway.lines.len() < before.lines.len() {
+        saw_removed(&before, gateway, arrival.port, column);
+    }
     outcome
+}
+
+/// Of a restart that removed lines counts whether some were at another port than its own, and what it was beside (02, W2).
+fn saw_removed(before: &Gateway, after: &Gateway, port: u8, column: &mut Column) {
+    let gone = |line: &&Line| !after.lines.contains(line);
+    let removed: Vec<&Line> = before.lines.iter().filter(gone).collect();
+    let ports: BTreeSet<u32> = removed.iter().map(|line| line.port).collect();
+    if ports == BTreeSet::from([port.into()]) {
+        return;
+    }
+    column.saw_once(Row::BoardMoved);
+    column.saw(Row::RemovedElsewhere);
+    let node = removed[0].node;
+    let beside = |near: fn(u64, u64) -> bool| after.lines.iter().any(|line| near(line.node, node));
+    for (row, is_so) in [
+        (Move::FullTable, before.lines.len() == MOST_LINES),
+        (Move::OpenPort, !before.open.is_empty()),
+        (Move::SeveralPorts, ports.len() > 1),
+        (Move::ThreePorts, ports.len() > 2),
+        (Move::NoLineAtItsPort, !ports.contains(&port.into())),
+        (Move::NextNodeId, beside(|other, node| other == node + 1)),
+        (Move::SameLowBits, beside(same_low_bits)),
+    ] {
+        if is_so {
+            column.saw(Row::Moved(row));
+        }
+    }
+}
+
+/// Whether two Node IDs differ in their high byte only.
+fn same_low_bits(one: u64, other: u64) -> bool {
+    (one ^ other) & low_bits(40) == 0
 }
 
 /// The row of a message that goes on to so many of the ports.
@@ -155,5 +192,62 @@ pub fn board_file(column: &mut Column, file: &[u8]) {
     for call in calls {
         let answer = call.make(&mut node);
         column.saw_call(&call, &answer, node.state);
+    }
+}
+
+#[cfg(test)]
+mod tests {
+    use super::super::parts::Parts;
+    use super::super::random::Dice;
+    use super::*;
+
+    /// The rows of moves that node 7's restart at port 2 reaches, from lines, each a port and a node, and open ports; nothing where it is no move.
+    fn moves(lines: &[(u32, u64)], open: &[u32]) -> Option<Vec<Move>> {
+        let mut gateway = trial_box();
+        let line = |(start, (port, node)): (u64, &(u32, u64))| Line {
+            port: *port,
+            node: *node,
+            start,
+            k: 0,
+        };
+        gateway.lines = (0..).zip(lines).map(line).collect();
+        gateway.open = open.iter().copied().collect();
+        let restart = Arrival {
+            port: 2,
+            bytes: Parts::restart(&mut Dice::of_input(1, 1, 1), 7, 7).bytes(),
+        };
+        let mut column = Column::default();
+        receive(&mut gateway, &restart, &mut column);
+        let moved = [Row::BoardMoved, Row::RemovedElsewhere].map(|row| column.seen(row));
+        assert!(moved == [0, 0] || moved == [1, 1]);
+        let beside = column.reached().filter_map(|row| match row {
+            Row::Moved(beside) => Some(beside),
+            _ => None,
+        });
+        (moved == [1, 1]).then(|| beside.collect())
+    }
+
+    /// 02, W2: a board has moved where a line at another port is removed; and what is seen beside it.
+    #[test]
+    fn what_a_move_is() {
+        use Move::*;
+        assert_eq!(moves(&[(2, 7)], &[1]), None);
+        assert_eq!(moves(&[(1, 8), (2, 7), (3, 6)], &[]), None);
+        assert_eq!(moves(&[(1, 8)], &[]), None);
+        let alone = Some(vec![NoLineAtItsPort]);
+        assert_eq!(moves(&[(1, 7)], &[]), alone);
+        assert_eq!(moves(&[(1, 7), (2, 6), (2, 7 << 40)], &[]), alone);
+        assert_eq!(moves(&[(1, 7), (2, 7)], &[]), Some(vec![SeveralPorts]));
+        let three = [(0, 7), (1, 7), (2, 7)];
+        assert_eq!(moves(&three, &[]), Some(vec![SeveralPorts, ThreePorts]));
+        let next = Some(vec![NoLineAtItsPort, NextNodeId]);
+        assert_eq!(moves(&[(2, 8), (3, 7)], &[]), next);
+        let high = Some(vec![NoLineAtItsPort, SameLowBits]);
+        assert_eq!(moves(&[(3, 7), (0, 7 | 1 << 40)], &[]), high);
+        let open = Some(vec![OpenPort, NoLineAtItsPort]);
+        assert_eq!(moves(&[(3, 7)], &[0]), open);
+        let full = Some(vec![FullTable, NoLineAtItsPort]);
+        assert_eq!(moves(&[(3, 7); 256], &[]), full);
+        assert_eq!(moves(&[(3, 7); 255], &[]), alone);
     }
 }

@@ -88,6 +88,17 @@ impl Parts {
         parts
     }
 
+    /// An Initialization Complete from a node, naming that one or another.
+    pub fn restart(dice: &mut Dice, source: u64, named: u64) -> Parts {
+        Parts {
+            mti: dice.pick(&[0x0100, 0x0110]),
+            source,
+            destination: None,
+            event: None,
+            content: node_bytes(named).to_vec(),
+        }
+    }
+
     /// The bytes of the fields that are there, whether or not the MTI flags them.
     pub fn bytes(&self) -> Vec<u8> {
         let mut bytes = self.mti.to_be_bytes().to_vec();

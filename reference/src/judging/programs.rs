@@ -77,7 +77,7 @@ impl Reader {
 
     /// Compares what the program printed for a file with the reference's text.
     fn compare(&self, witness: &mut Witness, file: &[u8], printed: &Printed) {
-        witness.column.saw(Row::Inputs);
+        witness.column.saw_input();
         let text = (self.text)(file);
         (self.observe)(witness.column, file);
         let asked = || format!("{} < file", self.name);
@@ -175,7 +175,8 @@ mod tests {
         assert_eq!(sorts, JUDGE.sorts);
     }
 
-    /// As many files as there are by default reach every row that files can, where the programs print what they should.
+    /// As many files as there are by default reach every row that files can, those of moves many times, where the programs print what they should. In half
+    /// of the trial files or more a board moves.
     #[test]
     fn every_row_by_default() {
         let mut columns = Columns::default();
@@ -195,6 +196,15 @@ mod tests {
             help: false,
         };
         assert_eq!(reached::faults(&JUDGE, &options, &columns), [""; 0]);
+        for sort in [Sort::Trial, Sort::Why, Sort::Explain] {
+            let column = &columns[sort as usize];
+            assert!(2 * column.seen(Row::BoardMoved) >= column.seen(Row::Inputs));
+            let of_moves = |row: &Row| matches!(row, Row::Moved(_));
+            for row in Row::all().into_iter().filter(of_moves) {
+                let seen = column.seen(row);
+                assert!(seen >= 50, "{}: {}: {seen}", sort.name(), row.label());
+            }
+        }
     }
 
     /// A program that prints nothing is found out, but for files whose text is nothing.

@@ -2,7 +2,6 @@
 
 use crate::gateway::{self, Line};
 use crate::lent_box::{Block, Gateway, Reason};
-use crate::message::node_id_bytes;
 use crate::why;
 
 use super::boxes::{all_places, Calls, Lines};
@@ -133,15 +132,8 @@ fn message(dice: &mut Dice, mtis: &[u16], event: u64) -> Vec<u8> {
 fn restart(dice: &mut Dice) -> Vec<u8> {
     let source = good_node(dice);
     let other = good_node(dice);
-    let node = dice.pick(&[source, other]);
-    let parts = Parts {
-        mti: dice.pick(&[0x0100, 0x0110]),
-        source,
-        destination: None,
-        event: None,
-        content: node_id_bytes(node),
-    };
-    parts.bytes()
+    let named = dice.pick(&[source, other]);
+    Parts::restart(dice, source, named).bytes()
 }
 
 /// Puts a question to both sides; whether they agree and the lists are as they were.

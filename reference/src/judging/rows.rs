@@ -89,6 +89,44 @@ pub const BOARD_WAY_COUNT: usize = BOARD_WAYS.len();
 /// The first of the ways that only lists can be out of bounds in.
 pub const FIRST_UNEQUAL: usize = 9;
 
+/// What a restart can be beside that removes lines at another port than its own.
+#[derive(Clone, Copy, PartialEq, Eq, PartialOrd, Ord, Debug)]
+pub enum Move {
+    FullTable,
+    OpenPort,
+    SeveralPorts,
+    ThreePorts,
+    NoLineAtItsPort,
+    NextNodeId,
+    SameLowBits,
+}
+
+impl Move {
+    /// All of them, in the order of the table.
+    const ALL: [Move; 7] = [
+        Move::FullTable,
+        Move::OpenPort,
+        Move::SeveralPorts,
+        Move::ThreePorts,
+        Move::NoLineAtItsPort,
+        Move::NextNodeId,
+        Move::SameLowBits,
+    ];
+
+    /// What its row is called.
+    fn label(self) -> &'static str {
+        match self {
+            Move::FullTable => "moved with a full table",
+            Move::OpenPort => "moved with an open port",
+            Move::SeveralPorts => "restarts that removed lines at several ports",
+            Move::ThreePorts => "restarts that removed lines at three or more",
+            Move::NoLineAtItsPort => "moved to a port without a line of the node",
+            Move::NextNodeId => "moved beside lines of the next Node ID",
+            Move::SameLowBits => "moved beside lines of the same low 40 bits",
+        }
+    }
+}
+
 /// A row: something that can be seen of an input.
 #[derive(Clone, Copy, PartialEq, Eq, PartialOrd, Ord, Debug)]
 pub enum Row {
@@ -103,6 +141,12 @@ pub enum Row {
     SentToAllOthers,
     TableFilled,
     PortOpened,
+    /// Counted once an input: a restart removed lines at another port than its own.
+    BoardMoved,
+    /// The same, counted for each such restart.
+    RemovedElsewhere,
+    /// Such a restart, and what it was beside.
+    Moved(Move),
     /// Why a report is sent or not, the reason by its number.
     Reason(u8),
     HeldByOneEvent,
@@ -140,6 +184,8 @@ impl Row {
         }
         rows.extend([Row::TooManyReplies, Row::SentToNone, Row::SentToSome]);
         rows.extend([Row::SentToAllOthers, Row::TableFilled, Row::PortOpened]);
+        rows.extend([Row::BoardMoved, Row::RemovedElsewhere]);
+        rows.extend(Move::ALL.map(Row::Moved));
         rows.extend((1..=REASONS.len() as u8).map(Row::Reason));
         rows.extend([Row::HeldByOneEvent, Row::HeldByRange]);
         rows.extend([Row::HeldInTheLastPlace, Row::HeldOnceMore]);
@@ -194,6 +240,7 @@ impl Row {
             Row::BoxWay(way) => BOX_WAYS[way],
             Row::ListLength(way) => LENGTHS[way],
             Row::BoardWay(way) => BOARD_WAYS[way],
+            Row::Moved(beside) => beside.label(),
             Row::Inputs => "inputs",
             Row::Comparisons => "comparisons",
             Row::TooManyReplies => "refused 13 (never: 64 replies are 1,024 bytes)",
@@ -202,6 +249,8 @@ impl Row {
             Row::SentToAllOthers => "sent to all other ports",
             Row::TableFilled => "tables filled to 256 lines",
             Row::PortOpened => "ports opened",
+            Row::BoardMoved => "inputs in which a board moved",
+            Row::RemovedElsewhere => "restarts that removed lines at another port",
             Row::HeldByOneEvent => "why: a line of one event",
             Row::HeldByRange => "why: a line of a range",
             Row::HeldInTheLastPlace => "why: the last line of a full table",
@@ -237,7 +286,10 @@ impl Row {
             | Row::SentToSome
             | Row::SentToAllOthers
             | Row::TableFilled
-            | Row::PortOpened => &[Sort::Box, Sort::Trial, Sort::Why, Sort::Explain],
+            | Row::PortOpened
+            | Row::BoardMoved
+            | Row::RemovedElsewhere
+            | Row::Moved(_) => &[Sort::Box, Sort::Trial, Sort::Why, Sort::Explain],
             Row::Reason(_)
             | Row::HeldByOneEvent
             | Row::HeldByRange

@@ -10,7 +10,6 @@ use super::command::{Amounts, Judge, Options};
 use super::counts::Columns;
 use super::random::Dice;
 use super::reached;
-use super::rows::Row;
 use super::sort::Sort;
 use super::witness::Witness;
 
@@ -207,7 +206,7 @@ fn differences(seed: u64, inputs: u64, stand_in: &StandIn) -> (u64, Columns) {
     let mut differing = 0;
     for index in 0..inputs {
         let column = &mut columns[Sort::Calls as usize];
-        column.saw(Row::Inputs);
+        column.saw_input();
         let mut witness = Witness::new(column, false);
         let mut dice = Dice::of_input(seed, Sort::Calls as u64, index);
         calls::judge(&mut dice, &mut witness, stand_in);

@@ -91,7 +91,7 @@ impl World {
         };
         let spread = 4 * events as u64;
         World {
-            nodes: (0..nodes).map(|_| good_node(dice)).collect(),
+            nodes: some_nodes(dice, nodes),
             events: (0..events)
                 .map(|_| base.wrapping_add(dice.below(spread)))
                 .collect(),
@@ -127,6 +127,33 @@ impl World {
             self.edges.extend(area.edges());
         }
         area
+    }
+}
+
+/// So many Node IDs that may stand, some of them near the one before.
+fn some_nodes(dice: &mut Dice, count: usize) -> Vec<u64> {
+    let mut nodes = Vec::new();
+    for _ in 0..count {
+        let node = match nodes.last() {
+            Some(before) if dice.chance(40) => near_node(dice, *before),
+            _ => good_node(dice),
+        };
+        nodes.push(node);
+    }
+    nodes
+}
+
+/// A Node ID next to another, or one that has another high bit only; where that may not stand, one that has another low bit.
+pub fn near_node(dice: &mut Dice, node: u64) -> u64 {
+    let near = match dice.below(4) {
+        0 => node + 1,
+        1 => node - 1,
+        2 => node ^ 1 << dice.between(32, 39),
+        _ => node ^ 1 << dice.between(40, 47),
+    };
+    match near {
+        1..=HIGHEST_NODE => near,
+        _ => node ^ 2,
     }
 }
 
@@ -181,5 +208,20 @@ mod tests {
             }
         }
         assert_eq!(Area::house().number, crate::trial::HOUSE_NUMBER);
+    }
+
+    /// Near Node IDs may stand, also beside the limits, and never are the one they are near; each way to be near comes up.
+    #[test]
+    fn near_nodes() {
+        let mut dice = Dice::of_input(1, 1, 1);
+        for node in [1, 2, 1 << 40, 0x0A00_0000_0007, HIGHEST_NODE] {
+            let near: Vec<u64> = (0..400).map(|_| near_node(&mut dice, node)).collect();
+            let may_stand = |near: &u64| crate::message::is_node_id(*near) && *near != node;
+            assert!(near.iter().all(may_stand));
+            assert!(node == HIGHEST_NODE || near.contains(&(node + 1)));
+            assert!(node == 1 || near.contains(&(node - 1)));
+            let other_bit = |bit: u64| node == bit || near.contains(&(node ^ bit));
+            assert!((32..48).all(|high| other_bit(1 << high)));
+        }
     }
 }

@@ -245,7 +245,7 @@ impl Gateway {
             (Kind::ConsumerRangeIdentified, Some(number)) => {
                 self.announce(port, message.source, block_of(number));
             }
-            (Kind::InitializationComplete, _) => self.restart(port, message.source),
+            (Kind::InitializationComplete, _) => self.restart(message.source),
             _ => {}
         }
         Ok(others)
@@ -299,11 +299,12 @@ impl Gateway {
         }
     }
 
-    fn restart(&mut self, port: u8, node: u64) {
+    /// The node's lines go at every port.
+    fn restart(&mut self, node: u64) {
         let lines = &mut self.lines[..self.count];
         let mut kept = 0;
         for place in 0..lines.len() {
-            if lines[place].port != port || lines[place].node != node {
+            if lines[place].node != node {
                 lines[kept] = lines[place];
                 kept += 1;
             }
