@@ -71,6 +71,48 @@ hrislanoth_reading hrislanoth_read(const uint8_t *bytes, size_t length);
 /* The rest of out stays as it was. */
 hrislanoth_writing hrislanoth_write(hrislanoth_message message, const uint8_t *content, size_t content_length, uint8_t *out, size_t room);
 
+/* ---- the CAN side (document 02, W3)
+ *
+ * aliases and nodes are the list of aliases: node i stands behind alias i. Over 128, lists of unequal length, an alias above FFF, a bad Node ID, an alias or a Node ID
+ * twice: 7.
+ */
+
+/* 29 bits of the header are used, and the first length bytes. */
+typedef struct {
+    uint32_t header;
+    uint8_t length;
+    uint8_t bytes[8];
+} hrislanoth_frame;
+
+/* A message's sender, event, and the first length bytes of its payload; the bytes past them are not part of it. */
+typedef struct {
+    uint64_t sender;
+    uint64_t event;
+    size_t length;
+    uint8_t payload[256];
+} hrislanoth_gathered;
+
+/* What up to two senders have begun: of first and second the first count. All zero is the state in which nobody has begun anything. */
+typedef struct {
+    size_t count;
+    hrislanoth_gathered first;
+    hrislanoth_gathered second;
+} hrislanoth_joining;
+
+/* The refusal, or 0; the event report that is handed out, with MTI 05B4 or 0F14, and MTI 0 and zeros beside it where there is none; and the next joining state. */
+typedef struct {
+    uint8_t refusal;
+    uint16_t mti;
+    hrislanoth_gathered message;
+    hrislanoth_joining state;
+} hrislanoth_joined;
+
+/* Joins a frame: 7 (also a count over 2, a sender twice or a length over 256), 29, 16, 19, 17, 20, 18. Only 18 changes the joining state: it drops what that sender had begun. */
+hrislanoth_joined hrislanoth_join(const uint64_t *aliases, size_t alias_count, const uint64_t *nodes, size_t node_count, hrislanoth_joining state, hrislanoth_frame frame);
+
+/* Writes an event report's frames to the start of out, each as header 4, length 1 and data 8 bytes, and answers how many bytes that took: 7, 2 to 5, 29, 16, 6. The rest of out stays as it was. */
+hrislanoth_writing hrislanoth_split(const uint64_t *aliases, size_t alias_count, const uint64_t *nodes, size_t node_count, hrislanoth_message message, const uint8_t *content, size_t content_length, uint8_t *out, size_t room);
+
 /* ---- the box */
 
 /* A box but for its lines. Bit p of marks is the open mark of port p; count is the number of lines. */
@@ -210,6 +252,10 @@ size_t hrislanoth_trial_text(const uint8_t *file, size_t length, uint8_t *text, 
 /* The text of a board file from byte skip on, as much as fits into text; answers how many bytes that took. No file's text is longer than 2,139,000 bytes,
  * which is proved: where fewer bytes than room are answered, the text is at its end. */
 size_t hrislanoth_board_text(const uint8_t *file, size_t length, size_t skip, uint8_t *text, size_t room);
+
+/* The text of a frame file from byte skip on (docs/FRAME-FILES.md), as much as fits into text; answers how many bytes that took. No file's text is longer than 867,000 bytes,
+ * which is proved. */
+size_t hrislanoth_frame_text(const uint8_t *file, size_t length, size_t skip, uint8_t *text, size_t room);
 
 #ifdef __cplusplus
 }
