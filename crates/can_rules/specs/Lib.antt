@@ -1,0 +1,5 @@
+pub mod Frames
+pub mod Aliases
+pub mod Joining
+pub mod Splitting
+pub mod Runs
