@@ -1,9 +1,9 @@
 //! Board files (BOARD-FILES; the calls are those of 01-scope, Node).
 
 use crate::call::Call;
-use crate::message::number;
 use crate::node::{Answer, Node, Slot, NOT_INITIALIZED, UNADVERTISED};
 use crate::range;
+use crate::rest::{hexadecimal, or_dash, Rest};
 
 /// The most bytes of a file (BOARD-FILES).
 pub const MOST_BYTES: usize = 65_536;
@@ -16,38 +16,14 @@ pub const MOST_ROOM: u64 = 2_048;
 /// What a file prints that cannot be taken (BOARD-FILES).
 pub const BAD_FILE: &[u8] = b"bad file\n";
 
-/// The bytes of a file not yet taken.
-struct Rest<'a>(&'a [u8]);
+/// Takes a room, nothing where it is above 2,048 (BOARD-FILES).
+fn room_of(rest: &mut Rest) -> Option<usize> {
+    rest.at_most(2, MOST_ROOM).map(|room| room as usize)
+}
 
-impl<'a> Rest<'a> {
-    /// Takes so many bytes, nothing where the file is cut short (BOARD-FILES).
-    fn bytes(&mut self, count: usize) -> Option<&'a [u8]> {
-        if self.0.len() < count {
-            return None;
-        }
-        let (taken, rest) = self.0.split_at(count);
-        self.0 = rest;
-        Some(taken)
-    }
-
-    /// Takes a number of so many bytes, high byte first (BOARD-FILES).
-    fn number(&mut self, count: usize) -> Option<u64> {
-        self.bytes(count).map(number)
-    }
-
-    /// Takes a room, nothing where it is above 2,048 (BOARD-FILES).
-    fn room(&mut self) -> Option<usize> {
-        let room = self.number(2)?;
-        if room > MOST_ROOM {
-            return None;
-        }
-        Some(room as usize)
-    }
-
-    /// Takes one byte as a slot's place (BOARD-FILES).
-    fn slot(&mut self) -> Option<usize> {
-        self.number(1).map(|slot| slot as usize)
-    }
+/// Takes one byte as a slot's place (BOARD-FILES).
+fn slot_of(rest: &mut Rest) -> Option<usize> {
+    rest.number(1).map(|slot| slot as usize)
 }
 
 /// The text of a board file (BOARD-FILES).
@@ -84,10 +60,7 @@ pub fn parts_of(file: &[u8]) -> Option<(Node, Vec<Call>)> {
 fn node_of(rest: &mut Rest) -> Option<Node> {
     let id = rest.number(8)?;
     let automatic_number = rest.number(8)?;
-    let count = rest.number(1)?;
-    if count > MOST_SLOTS {
-        return None;
-    }
+    let count = rest.at_most(1, MOST_SLOTS)?;
     let mut slots = Vec::new();
     for _ in 0..count {
         let role = rest.number(1)? as u8;
@@ -111,21 +84,23 @@ fn node_of(rest: &mut Rest) -> Option<Node> {
 /// One call, nothing where it is another call or cut short (BOARD-FILES, the second table).
 fn call_of(rest: &mut Rest) -> Option<Call> {
     match rest.number(1)? {
-        1 => Some(Call::Initialise { room: rest.room()? }),
+        1 => Some(Call::Initialise {
+            room: room_of(rest)?,
+        }),
         2 => Some(Call::Announce {
-            room: rest.room()?,
-            slot: rest.slot()?,
+            room: room_of(rest)?,
+            slot: slot_of(rest)?,
         }),
         3 => Some(Call::Produce {
-            room: rest.room()?,
-            slot: rest.slot()?,
+            room: room_of(rest)?,
+            slot: slot_of(rest)?,
         }),
         4 => Some(Call::SetStatus {
-            slot: rest.slot()?,
+            slot: slot_of(rest)?,
             status: rest.number(1)? as u8,
         }),
         5 => {
-            let room = rest.room()?;
+            let room = room_of(rest)?;
             let length = rest.number(2)? as usize;
             let message = rest.bytes(length)?.to_vec();
             Some(Call::Receive { room, message })
@@ -136,10 +111,6 @@ fn call_of(rest: &mut Rest) -> Option<Call> {
 
 /// The line of one call, six fields (BOARD-FILES, "A line has six fields").
 fn line_of(place: usize, answer: &Answer, node: &Node) -> String {
-    let mut written = String::new();
-    for byte in &answer.written {
-        written.push_str(&format!("{byte:02X}"));
-    }
     let mut marks = String::new();
     for slot in &node.slots {
         marks.push_str(&slot.mark.to_string());
@@ -147,19 +118,11 @@ fn line_of(place: usize, answer: &Answer, node: &Node) -> String {
     format!(
         "{place} {} {} {:016X} {} {}\n",
         answer.refusal,
-        or_dash(written),
+        or_dash(hexadecimal(&answer.written)),
         answer.matches,
         node.state,
         or_dash(marks)
     )
-}
-
-/// A field, or `-` where it is empty (BOARD-FILES).
-fn or_dash(field: String) -> String {
-    if field.is_empty() {
-        return "-".to_string();
-    }
-    field
 }
 
 #[cfg(test)]

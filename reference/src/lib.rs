@@ -2,23 +2,31 @@
 //! `judging` is the judge itself.
 //!
 //! The comments name the documents: "00-order" is document 00, "01-scope" document 01, "02" the change requests of document 02, "001" the Event
-//! Transport Standard of July 2024, "003" the Message Network draft, "BOARD-FILES" the page docs/BOARD-FILES.md, "TRIAL-CASES" docs/TRIAL-CASES.md, "CASE-FILES" docs/CASE-FILES.md.
+//! Transport Standard of July 2024, "003" the Message Network draft, "BOARD-FILES" the page docs/BOARD-FILES.md, "TRIAL-CASES" docs/TRIAL-CASES.md, "CASE-FILES" docs/CASE-FILES.md,
+//! "FRAME-FILES" docs/FRAME-FILES.md.
 
+pub mod aliases;
 pub mod board;
 pub mod call;
+pub mod can;
 pub mod case_file;
 pub mod explain;
+pub mod frame_file;
 pub mod gateway;
 pub mod gateway_cases;
+pub mod joining;
 pub mod judging;
 pub mod lent_board;
 pub mod lent_box;
+pub mod lent_can;
+pub mod lent_message;
 pub mod message;
 pub mod node;
 pub mod node_cases;
 #[cfg(feature = "proved")]
 pub mod proved;
 pub mod range;
+pub mod rest;
 pub mod trial;
 pub mod trial_cases;
 pub mod why;
@@ -58,4 +66,16 @@ pub mod refusal {
     pub const NO_RANGE: u8 = 14;
     /// The message isn't an event report (02, W1).
     pub const NO_REPORT: u8 = 15;
+    /// An alias or a sender that is not in the list (02, W3).
+    pub const NOT_LISTED: u8 = 16;
+    /// A continuation without a start (02, W3).
+    pub const NOT_BEGUN: u8 = 17;
+    /// A payload over 256 bytes (02, W3).
+    pub const PAYLOAD: u8 = 18;
+    /// A frame of the wrong length (02, W3).
+    pub const FRAME_LENGTH: u8 = 19;
+    /// A start from a third sender while two are unfinished (02, W3).
+    pub const THIRD_SENDER: u8 = 20;
+    /// Any other header, or a message to split that is no event report (02, W3).
+    pub const NOT_FOR_CAN: u8 = 29;
 }

@@ -2,8 +2,10 @@
 #![allow(unsafe_code)]
 
 pub mod boards;
+pub mod can;
 
 pub use crate::lent_box::{Answer, Block, Gateway, Head, LentAnswer, Lists, Reason, PLACES};
+pub use crate::lent_message::{Message, Writing};
 
 #[repr(C)]
 #[derive(Clone, Copy, Debug, PartialEq, Eq)]
@@ -14,28 +16,10 @@ pub struct Number {
 
 #[repr(C)]
 #[derive(Clone, Copy, Debug, PartialEq, Eq)]
-pub struct Message {
-    pub mti: u16,
-    pub source: u64,
-    pub has_destination: u8,
-    pub destination: u64,
-    pub has_event: u8,
-    pub event: u64,
-}
-
-#[repr(C)]
-#[derive(Clone, Copy, Debug, PartialEq, Eq)]
 pub struct Reading {
     pub refusal: u8,
     pub message: Message,
     pub content_at: usize,
-}
-
-#[repr(C)]
-#[derive(Clone, Copy, Debug, PartialEq, Eq)]
-pub struct Writing {
-    pub refusal: u8,
-    pub bytes: usize,
 }
 
 mod linked {

@@ -3,12 +3,18 @@
 
 #[path = "speed/agree.rs"]
 mod agree;
+#[path = "speed/agree_can.rs"]
+mod agree_can;
 #[path = "speed/dice.rs"]
 mod dice;
 #[path = "speed/quick.rs"]
 mod quick;
+#[path = "speed/quick_can.rs"]
+mod quick_can;
 #[path = "speed/rows.rs"]
 mod rows;
+#[path = "speed/rows_can.rs"]
+mod rows_can;
 
 use std::fmt::Display;
 use std::process::ExitCode;
@@ -22,6 +28,8 @@ const USAGE: &str =
     "speed | speed --rows | speed --count ROW proved|'by value'|checked|unchecked N";
 const NOTES: &str = "proved: the box's call in place on lent lists; by value: the same work through the call that takes the state and gives the next one back.
 checked: the box without proofs, with document 01's test of the whole state first; unchecked: without it. - where there is no such call.
+split-256 and join-256: a report with 256 bytes of payload and a list of 128 pairs, the state by value in all columns, join-256 all 33 frames; unchecked leaves
+out the test of the list.
 announce-new and restart: every call on a fresh copy of the state, the copy counted in, by value the call's own; copy is that copy alone.
 The ratios are of proved. Output buffers (trial, write) are not cleared between calls.";
 
@@ -65,6 +73,7 @@ fn call_one(name: &str, column: &str, times: &str) -> Option<()> {
 
 fn measure() {
     agree::with_the_reference();
+    agree_can::with_the_reference();
     let mut measured = Vec::new();
     for mut row in rows::all() {
         let rounds = sorted_rounds(&mut row);

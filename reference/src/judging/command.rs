@@ -15,6 +15,8 @@ pub struct Amounts {
     pub files: u64,
     /// 0 for a judge that has neither messages nor ranges.
     pub small: u64,
+    /// How many frame files, and how many inputs of the CAN side's calls, for each other file.
+    pub frames: u64,
 }
 
 impl Amounts {
@@ -25,6 +27,7 @@ impl Amounts {
             Sort::Box | Sort::Trial | Sort::Board | Sort::Calls | Sort::Why | Sort::Explain => {
                 self.files
             }
+            Sort::Frame | Sort::Can => self.files.saturating_mul(self.frames),
         }
     }
 }
@@ -128,6 +131,7 @@ mod tests {
         amounts: Amounts {
             files: 2_000,
             small: 50_000,
+            frames: 10,
         },
         without: &[],
     };
@@ -137,6 +141,7 @@ mod tests {
         amounts: Amounts {
             files: 30,
             small: 0,
+            frames: 1,
         },
         without: &[],
     };
@@ -152,7 +157,14 @@ mod tests {
         assert_eq!((defaults.seed, defaults.amounts), (1, ALL.amounts));
         assert_eq!(defaults.only, None);
         let all = options(&ALL, "--seed 7 --files 3 --small 4 --only box:9").unwrap();
-        assert_eq!((all.seed, all.amounts), (7, Amounts { files: 3, small: 4 }));
+        let asked = Amounts {
+            files: 3,
+            small: 4,
+            frames: 10,
+        };
+        assert_eq!((all.seed, all.amounts), (7, asked));
+        let counts = [Sort::Box, Sort::Message, Sort::Frame, Sort::Can].map(|sort| asked.of(sort));
+        assert_eq!(counts, [3, 4, 30, 30]);
         assert_eq!(all.only, Some((Sort::Box, 9)));
         assert!(options(&ALL, "--help").unwrap().help);
         let files = options(&FILES_ONLY, "--only board:9").unwrap();
@@ -162,6 +174,10 @@ mod tests {
             let only = options(&FILES_ONLY, &format!("--only {name}:7")).unwrap();
             assert_eq!(only.only, Some((sort, 7)));
             assert!(options(&ALL, &format!("--only {name}:7")).is_err());
+        }
+        for judge in [&ALL, &FILES_ONLY] {
+            let only = options(judge, "--only frame:7").unwrap();
+            assert_eq!(only.only, Some((Sort::Frame, 7)));
         }
     }
 
@@ -181,7 +197,7 @@ mod tests {
         ] {
             assert!(options(&ALL, line).is_err(), "{line}");
         }
-        for line in ["--small 4", "--only box:9"] {
+        for line in ["--small 4", "--only box:9", "--only can:9"] {
             assert!(options(&FILES_ONLY, line).is_err(), "{line}");
         }
     }

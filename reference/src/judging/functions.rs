@@ -17,11 +17,13 @@ pub enum Function {
     Produce,
     SetStatus,
     Hear,
+    Join,
+    Split,
 }
 
 impl Function {
     /// All of them, in the order of the table.
-    pub const ALL: [Function; 12] = [
+    pub const ALL: [Function; 14] = [
         Function::BlockOf,
         Function::NumberOf,
         Function::Read,
@@ -34,6 +36,8 @@ impl Function {
         Function::Produce,
         Function::SetStatus,
         Function::Hear,
+        Function::Join,
+        Function::Split,
     ];
 
     /// The name in the table.
@@ -51,10 +55,12 @@ impl Function {
             Function::Produce => "produce",
             Function::SetStatus => "set status",
             Function::Hear => "hear",
+            Function::Join => "join",
+            Function::Split => "split",
         }
     }
 
-    /// The refusals that can arise, and 0 for none (01-scope, Refusal numbers, order; 02, W1). Refusal 13 cannot.
+    /// The refusals that can arise, and 0 for none (01-scope, Refusal numbers, order; 02, W1 and W3). Refusal 13 cannot.
     pub fn answers(self) -> &'static [u8] {
         match self {
             Function::BlockOf => &[0],
@@ -69,6 +75,8 @@ impl Function {
             Function::Produce => &[0, 3, 6, 7, 9, 10, 11, 12],
             Function::SetStatus => &[0, 3, 7, 10],
             Function::Hear => &[0, 1, 2, 3, 4, 5, 6, 7],
+            Function::Join => &[0, 7, 16, 17, 18, 19, 20, 29],
+            Function::Split => &[0, 2, 3, 4, 5, 6, 7, 16, 29],
         }
     }
 
@@ -85,6 +93,7 @@ impl Function {
             | Function::Produce
             | Function::SetStatus
             | Function::Hear => &[Sort::Board, Sort::Calls],
+            Function::Join | Function::Split => &[Sort::Frame, Sort::Can],
         }
     }
 }

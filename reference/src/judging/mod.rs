@@ -7,24 +7,35 @@ pub mod archive;
 mod archive_boards;
 #[cfg(feature = "proved")]
 mod archive_boxes;
+#[cfg(feature = "proved")]
+mod archive_can;
 pub mod board_calls;
 pub mod board_files;
 #[cfg(feature = "proved")]
 mod boards;
 pub mod boxes;
 pub mod calls;
+pub mod can_calls;
+pub mod can_lists;
+pub mod can_splits;
+pub mod can_states;
+pub mod can_talk;
 pub mod children;
 pub mod command;
 pub mod counts;
+pub mod frame_files;
+pub mod frames;
 pub mod functions;
 pub mod histories;
 pub mod laid_boards;
 pub mod laid_out;
+pub mod legs;
 pub mod lengths;
 #[cfg(feature = "proved")]
 mod messages;
 pub mod moves;
 pub mod observed;
+pub mod observed_can;
 pub mod output;
 pub mod parts;
 pub mod programs;
@@ -40,7 +51,13 @@ mod stand_in;
 #[cfg(test)]
 mod stand_in_box;
 #[cfg(test)]
+mod stand_in_can;
+#[cfg(test)]
+mod stand_in_joins;
+#[cfg(test)]
 mod stand_in_restarts;
+#[cfg(test)]
+mod stand_in_splits;
 #[cfg(test)]
 mod stand_in_why;
 pub mod texts;

@@ -4,6 +4,7 @@ use std::process::ExitCode;
 
 use crate::board::board_text;
 use crate::explain::explain_text;
+use crate::frame_file::frame_text;
 use crate::trial::trial_text;
 use crate::why_text::why_text;
 
@@ -14,7 +15,7 @@ use super::random::Dice;
 use super::rows::Row;
 use super::sort::Sort;
 use super::witness::{Hex, Witness};
-use super::{board_files, observed, trial_files, verdict};
+use super::{board_files, frame_files, observed, observed_can, trial_files, verdict};
 
 /// The judge of the programs.
 const JUDGE: Judge = Judge {
@@ -23,6 +24,7 @@ const JUDGE: Judge = Judge {
     amounts: Amounts {
         files: 1_000,
         small: 0,
+        frames: 1,
     },
     // A program prints its text whole.
     without: &[Row::TextInParts],
@@ -38,7 +40,7 @@ struct Reader {
 }
 
 /// The programs that read a file.
-const READERS: [Reader; 4] = [
+const READERS: [Reader; 5] = [
     Reader {
         sort: Sort::Trial,
         name: "trial",
@@ -66,6 +68,13 @@ const READERS: [Reader; 4] = [
         any_file: trial_files::any_file_to_ask,
         text: explain_text,
         observe: observed::explain_file,
+    },
+    Reader {
+        sort: Sort::Frame,
+        name: "frames",
+        any_file: frame_files::any_file,
+        text: frame_text,
+        observe: observed_can::frame_file,
     },
 ];
 
@@ -215,6 +224,7 @@ mod tests {
             amounts: Amounts {
                 files: 20,
                 small: 0,
+                frames: 1,
             },
             only: None,
             help: false,

@@ -14,10 +14,11 @@ pub fn faults(judge: &Judge, options: &Options, columns: &Columns) -> Vec<String
             faults.push(format!("{}: nothing was compared", sort.name()));
             continue;
         }
-        let missed = |row: &Row| judge.can_reach(*row, *sort) && column.seen(*row) == 0;
+        let missed = |row: &Row| judge.can_reach(*row, *sort) && column.seen(*row) < row.least();
         if is_asked(judge, options, *sort) {
             for row in Row::all().into_iter().filter(missed) {
-                faults.push(format!("{}: never reached: {}", sort.name(), row.label()));
+                let how_often = how_often(column.seen(row), row.least());
+                faults.push(format!("{}: {how_often}: {}", sort.name(), row.label()));
             }
         }
         let barred = |row: &Row| !judge.can_reach(*row, *sort);
@@ -27,6 +28,14 @@ pub fn faults(judge: &Judge, options: &Options, columns: &Columns) -> Vec<String
         }
     }
     faults
+}
+
+/// A row that was reached too few times, in words.
+fn how_often(seen: u64, least: u64) -> String {
+    match seen {
+        0 => "never reached".to_string(),
+        _ => format!("reached {seen} times, and {least} are asked for"),
+    }
 }
 
 /// The sorts of which there are some inputs but fewer than by default, so that not every row has to be reached.
@@ -43,11 +52,13 @@ fn is_asked(judge: &Judge, options: &Options, sort: Sort) -> bool {
 #[cfg(test)]
 mod tests {
     use super::super::command::Amounts;
+    use super::super::functions::Function;
     use super::*;
 
     const DEFAULT: Amounts = Amounts {
         files: 10,
         small: 20,
+        frames: 0,
     };
     const JUDGE: Judge = Judge {
         name: "judge",
@@ -59,7 +70,11 @@ mod tests {
     fn options(files: u64, small: u64) -> Options {
         Options {
             seed: 1,
-            amounts: Amounts { files, small },
+            amounts: Amounts {
+                files,
+                small,
+                frames: 0,
+            },
             only: None,
             help: false,
         }
@@ -71,7 +86,7 @@ mod tests {
         for sort in Sort::ALL {
             for row in Row::all() {
                 if JUDGE.can_reach(row, sort) && !left_out.contains(&(sort, row)) {
-                    columns[sort as usize].saw(row);
+                    (0..row.least()).for_each(|_| columns[sort as usize].saw(row));
                 }
             }
         }
@@ -102,6 +117,35 @@ mod tests {
                 assert_eq!(found, expected);
             }
         }
+    }
+
+    /// A row that has to be reached several times, and is not.
+    #[test]
+    fn too_few_times() {
+        let judge = Judge {
+            sorts: &[Sort::Can],
+            amounts: Amounts {
+                frames: 1,
+                ..DEFAULT
+            },
+            ..JUDGE
+        };
+        let row = Row::Answer(Function::Join, 20);
+        assert!(row.least() > 1);
+        let options = Options {
+            amounts: judge.amounts,
+            ..options(10, 20)
+        };
+        let mut columns = all_but(&[(Sort::Can, row)]);
+        for seen in 0..row.least() {
+            let said = match seen {
+                0 => "can: never reached: join: refused 20".to_string(),
+                _ => format!("can: reached {seen} times, and 10 are asked for: join: refused 20"),
+            };
+            assert_eq!(faults(&judge, &options, &columns), [said]);
+            columns[Sort::Can as usize].saw(row);
+        }
+        assert_eq!(faults(&judge, &options, &columns), [""; 0]);
     }
 
     /// A row that cannot be reached is a fault where it is, with few inputs too.

@@ -1,6 +1,7 @@
 //! The rows of the table: what inputs are to reach, and which sorts of input can.
 
 use super::functions::Function;
+use super::legs::{Leg, CAN_WAYS, CAN_WAY_COUNT, FIRST_OF_CALLS, SPLIT_LENGTHS};
 use super::sort::Sort;
 
 /// The size classes of blocks: what they are called, the least and the most k.
@@ -89,6 +90,9 @@ pub const BOARD_WAY_COUNT: usize = BOARD_WAYS.len();
 /// The first of the ways that only lists can be out of bounds in.
 pub const FIRST_UNEQUAL: usize = 9;
 
+/// How many times the default inputs have to reach a row of a CAN leg.
+const LEAST_OF_LEG: u64 = 10;
+
 /// What a restart can be beside that removes lines at another port than its own.
 #[derive(Clone, Copy, PartialEq, Eq, PartialOrd, Ord, Debug)]
 pub enum Move {
@@ -172,6 +176,11 @@ pub enum Row {
     OnSlotRecords,
     OnLists,
     BoardWay(usize),
+    /// What was seen of a CAN leg.
+    Leg(Leg),
+    /// A report with so many bytes of payload was split, by the place among the lengths.
+    SplitLength(usize),
+    CanWay(usize),
 }
 
 impl Row {
@@ -201,6 +210,9 @@ impl Row {
         rows.extend((0..LENGTH_COUNT).map(Row::ListLength));
         rows.extend([Row::OnSlotRecords, Row::OnLists]);
         rows.extend((0..BOARD_WAY_COUNT).map(Row::BoardWay));
+        rows.extend(Leg::ALL.map(Row::Leg));
+        rows.extend((0..SPLIT_LENGTHS.len()).map(Row::SplitLength));
+        rows.extend((0..CAN_WAY_COUNT).map(Row::CanWay));
         rows
     }
 
@@ -226,6 +238,23 @@ impl Row {
         Row::Board(class.expect("every count is in a class"))
     }
 
+    /// The row of a payload of so many bytes that is split, if it has one.
+    pub fn of_split(payload: usize) -> Option<Row> {
+        let place = SPLIT_LENGTHS.iter().position(|length| *length == payload)?;
+        Some(Row::SplitLength(place))
+    }
+
+    /// How many times the default inputs of a sort have to reach it.
+    pub fn least(self) -> u64 {
+        match self {
+            Row::Answer(Function::Join | Function::Split, _)
+            | Row::Leg(_)
+            | Row::SplitLength(_)
+            | Row::CanWay(_) => LEAST_OF_LEG,
+            _ => 1,
+        }
+    }
+
     /// What it is called; of one that no input can reach also why.
     pub fn label(self) -> String {
         let label = match self {
@@ -234,6 +263,11 @@ impl Row {
                 return format!("{}: refused {refusal}", function.name())
             }
             Row::Wrote(mti) => return format!("board wrote {mti:04X}"),
+            Row::SplitLength(place) => {
+                return format!("split: a payload of {}", SPLIT_LENGTHS[place])
+            }
+            Row::Leg(leg) => leg.label(),
+            Row::CanWay(way) => CAN_WAYS[way],
             Row::Reason(number) => REASONS[usize::from(number) - 1],
             Row::Block(class) => SIZES[class].0,
             Row::Board(class) => BOARDS[class].0,
@@ -313,13 +347,22 @@ impl Row {
             | Row::NotYetInitialized => &[Sort::Board, Sort::Calls],
             Row::Wrote(mti) if WRITTEN.contains(&mti) => &[Sort::Board, Sort::Calls],
             Row::Wrote(_) => &[],
-            Row::BadFile => &[Sort::Trial, Sort::Board, Sort::Why, Sort::Explain],
+            Row::BadFile => &[
+                Sort::Trial,
+                Sort::Board,
+                Sort::Why,
+                Sort::Explain,
+                Sort::Frame,
+            ],
             Row::NoEntries => &[Sort::Why, Sort::Explain],
             Row::NoReport => &[Sort::Explain],
-            Row::TextInParts => &[Sort::Trial, Sort::Board],
+            Row::TextInParts => &[Sort::Trial, Sort::Board, Sort::Frame],
             Row::WrittenBack => &[Sort::Message],
             Row::BoxWay(_) | Row::ListLength(_) => &[Sort::Box],
             Row::OnSlotRecords | Row::OnLists | Row::BoardWay(_) => &[Sort::Calls],
+            Row::Leg(Leg::SplitThenJoined) => &[Sort::Can],
+            Row::CanWay(way) if way >= FIRST_OF_CALLS => &[Sort::Can],
+            Row::Leg(_) | Row::SplitLength(_) | Row::CanWay(_) => &[Sort::Frame, Sort::Can],
         }
     }
 }

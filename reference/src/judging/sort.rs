@@ -13,11 +13,15 @@ pub enum Sort {
     Why,
     /// Trial files of the program `explain`.
     Explain,
+    /// Frame files.
+    Frame,
+    /// Calls of the CAN side.
+    Can,
 }
 
 impl Sort {
     /// All sorts, in the order in which they are run.
-    pub const ALL: [Sort; 8] = [
+    pub const ALL: [Sort; 10] = [
         Sort::Range,
         Sort::Message,
         Sort::Box,
@@ -26,19 +30,29 @@ impl Sort {
         Sort::Calls,
         Sort::Why,
         Sort::Explain,
+        Sort::Frame,
+        Sort::Can,
     ];
 
     /// Those of the archive, which has no call for the texts of `why` and `explain`.
-    pub const OF_ARCHIVE: [Sort; 6] = [
+    pub const OF_ARCHIVE: [Sort; 8] = [
         Sort::Range,
         Sort::Message,
         Sort::Box,
         Sort::Trial,
         Sort::Board,
         Sort::Calls,
+        Sort::Frame,
+        Sort::Can,
     ];
     /// Those of the programs.
-    pub const OF_PROGRAMS: [Sort; 4] = [Sort::Trial, Sort::Board, Sort::Why, Sort::Explain];
+    pub const OF_PROGRAMS: [Sort; 5] = [
+        Sort::Trial,
+        Sort::Board,
+        Sort::Why,
+        Sort::Explain,
+        Sort::Frame,
+    ];
 
     /// The name on the command line.
     pub fn name(self) -> &'static str {
@@ -51,6 +65,8 @@ impl Sort {
             Sort::Calls => "calls",
             Sort::Why => "why",
             Sort::Explain => "explain",
+            Sort::Frame => "frame",
+            Sort::Can => "can",
         }
     }
 

@@ -1,11 +1,20 @@
-//! Texts of files: what the proved side puts into a lent buffer, and what it should.
+//! Texts of files: what the proved side puts into a lent buffer, and what it should; as a whole, or in parts that are joined.
 
-use super::witness::Text;
+use super::random::Dice;
+use super::rows::Row;
+use super::witness::{Text, Witness};
 
 /// What the buffer is filled with before; no text has such a byte, so that every byte that is written shows.
 const UNWRITTEN: u8 = 0xEE;
 /// Bytes past the lent room, which no call may touch.
 const GUARD: usize = 16;
+
+/// Room beyond the reference's text, so that a longer text shows.
+const SLACK: usize = 256;
+/// A text this short is asked for in parts of a few bytes.
+const SHORT: usize = 600;
+/// The most parts of any other text, each of which runs the whole file.
+const MOST_PARTS: usize = 12;
 
 /// The bytes that were taken, how many, and whether the rest of the buffer is as it was.
 #[derive(PartialEq, Debug)]
@@ -40,6 +49,63 @@ impl TextAnswer {
             rest_unchanged: true,
         }
     }
+}
+
+/// A text that a proved call gives from any byte on: what the call is named, what the text should be, and how many times in a hundred it is asked for as a
+/// whole.
+pub struct FromAnyByte<'a, F: Fn(usize, &mut [u8]) -> usize> {
+    pub name: &'static str,
+    pub text: &'a [u8],
+    pub whole: u64,
+    pub call: F,
+}
+
+impl<F: Fn(usize, &mut [u8]) -> usize> FromAnyByte<'_, F> {
+    /// Asks for the whole text, or else for its parts.
+    pub fn judge(&self, dice: &mut Dice, witness: &mut Witness) {
+        if dice.chance(self.whole) {
+            self.compare(witness, 0, self.text.len() + SLACK);
+            return;
+        }
+        witness.column.saw(Row::TextInParts);
+        self.compare_parts(dice, witness);
+        let length = self.text.len();
+        let beyond = dice.pick(&[length, length + 1, usize::MAX]);
+        self.compare(witness, beyond, SLACK);
+    }
+
+    /// Asks for the text from byte `skip` on and compares it; answers what was taken.
+    fn compare(&self, witness: &mut Witness, skip: usize, room: usize) -> Vec<u8> {
+        let proved = TextAnswer::of_proved(room, |buffer| (self.call)(skip, buffer));
+        let reference = TextAnswer::expected(self.text, skip, room);
+        let asked = || format!("{} from byte {skip} on into {room} bytes", self.name);
+        witness.compare(asked, &proved, &reference);
+        proved.text.0
+    }
+
+    /// Asks for part after part until one is empty, and compares all of them joined.
+    fn compare_parts(&self, dice: &mut Dice, witness: &mut Witness) {
+        let least = smallest_part(self.text.len());
+        let mut joined = Vec::new();
+        while !witness.differed {
+            let room = dice.between(least, 4 * least);
+            let part = self.compare(witness, joined.len(), room);
+            if part.is_empty() {
+                break;
+            }
+            joined.extend(part);
+        }
+        let asked = || "the parts joined".to_string();
+        witness.compare(asked, &Text(joined), &Text(self.text.to_vec()));
+    }
+}
+
+/// The smallest part that a text is asked for in: a byte of a short one, else as much as keeps the parts few.
+fn smallest_part(length: usize) -> usize {
+    if length <= SHORT {
+        return 1;
+    }
+    length.div_ceil(MOST_PARTS)
 }
 
 #[cfg(test)]

@@ -155,11 +155,17 @@ fn check_fields(kind: Kind, message: &Message, content: &[u8]) -> Result<(), u8>
     Ok(())
 }
 
+/// Refusals 2 to 5 of writing.
+#[inline(always)]
+pub fn check_writing(message: &Message, content: &[u8]) -> Result<(), u8> {
+    let kind = kind_of(message.mti).ok_or(refusal::MTI)?;
+    check_fields(kind, message, content)
+}
+
 /// Writes a message and answers its length, or refusal 2 to 6; never inlined, as the proved call cannot be.
 #[inline(never)]
 pub fn write(message: &Message, content: &[u8], out: &mut [u8]) -> Result<usize, u8> {
-    let kind = kind_of(message.mti).ok_or(refusal::MTI)?;
-    check_fields(kind, message, content)?;
+    check_writing(message, content)?;
     let header = 8
         + if message.destination.is_some() { 6 } else { 0 }
         + if message.event.is_some() { 8 } else { 0 };

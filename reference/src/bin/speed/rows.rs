@@ -8,6 +8,7 @@ use reference::trial::{self, HOUSE_NUMBER};
 
 use crate::dice::Dice;
 use crate::quick::{self, Line};
+use crate::rows_can;
 
 /// A box's proved column is the call in place.
 pub const COLUMNS: [&str; 4] = ["proved", "by value", "checked", "unchecked"];
@@ -40,11 +41,12 @@ pub fn all() -> Vec<Row> {
     rows.push(trial_row());
     rows.extend(reading_rows());
     rows.extend(writing_rows());
+    rows.extend(rows_can::all());
     rows
 }
 
 /// The answer is shown by reference: by value it would be copied once more.
-fn repeat<T>(mut call: impl FnMut() -> T + 'static) -> Call {
+pub fn repeat<T>(mut call: impl FnMut() -> T + 'static) -> Call {
     Box::new(move |times| {
         for _ in 0..times {
             black_box(&call());
