@@ -1,4 +1,5 @@
 // The proved functions for C and for what links with C; include/hrislanoth.h is the header.
+mod frames;
 mod lists;
 mod reasons;
 mod records;
@@ -9,7 +10,7 @@ ghost use Rattle.range.specs.Range.{blockOf};
 ghost use Rattle.range.specs.Answer.{numberTold};
 ghost use Rattle.text.specs.Text.{filledAt, endAt};
 ghost use Rattle.message.specs.Reading.{readTold};
-ghost use Rattle.message.specs.Writing.{writeTold, outAfter};
+ghost use Rattle.message.specs.Writing.{writingTold, writeTold, outAfter};
 ghost use Rattle.gateway_rules.specs.Step.{start as startedBy, step as stepOf};
 ghost use Rattle.gateway.specs.State.{gateOf, entered, left};
 ghost use Rattle.gateway.specs.Answers.{seenIn, seenOf, refusalKeeps, seenLent, lentStep, lentRefusalKeeps};
@@ -117,16 +118,8 @@ pub extern "C" fn hrislanoth_write(
     ensures { λ w. ⌜ w ≡ toldWriting (writeTold (messageFrom message) (now (content .entry)) (now (out .entry))) ⌝ }
     ensures { λ _. ⌜ now (out .exit) ≡ outAfter (messageFrom message) (now (content .entry)) (now (out .entry)) ⌝ }
 {
-    let m = Message {
-        mti: message.mti,
-        source: message.source,
-        destination: field(message.has_destination, message.destination),
-        event: field(message.has_event, message.event),
-    };
-    match message::write(m, content, out) {
-        Writing::Written(bytes) => FlatWriting { refusal: 0, bytes },
-        Writing::NotWritten(refusal) => FlatWriting { refusal, bytes: 0 },
-    }
+    let m = message_from(message);
+    flat_writing(message::write(m, content, out))
 }
 
 #[no_mangle]
@@ -188,6 +181,26 @@ fn flat(m: Message) -> FlatMessage
         destination: value(destination),
         has_event: has(event),
         event: value(event),
+    }
+}
+
+pub(crate) fn message_from(message: FlatMessage) -> Message
+    ensures { λ m. ⌜ m ≡ messageFrom message ⌝ }
+{
+    Message {
+        mti: message.mti,
+        source: message.source,
+        destination: field(message.has_destination, message.destination),
+        event: field(message.has_event, message.event),
+    }
+}
+
+pub(crate) fn flat_writing(w: Writing) -> FlatWriting
+    ensures { λ f. ⌜ f ≡ toldWriting (writingTold w) ⌝ }
+{
+    match w {
+        Writing::Written(bytes) => FlatWriting { refusal: 0, bytes },
+        Writing::NotWritten(refusal) => FlatWriting { refusal, bytes: 0 },
     }
 }
 

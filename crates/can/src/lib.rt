@@ -1,8 +1,10 @@
 // The CAN side: frames joined to event reports, and event reports split into frames.
 mod parts;
+mod splitting;
 mod state;
 
 pub use parts::join;
+pub use splitting::split;
 
 // What was gathered of a message: its sender, its event, and the first `length` bytes of its payload.
 #[repr(C)]

@@ -1,7 +1,6 @@
 -- The place in the whole list is so many places on as in what is left of it.
 use Prim.Native.Nat.{_+_, _-_, _≤_}
-use mathlib.Core.Path.{_≡_, refl}
-use native.Mathlib.Nat.{zero-add}
+use mathlib.Core.Path.{_≡_}
 use native.Mathlib.Omega.{arith}
 use borrow.Author.Needs.{needs}
 use lib.ListN.{length, drop}

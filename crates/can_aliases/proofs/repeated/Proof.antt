@@ -37,7 +37,9 @@ loop-less c = search needs
 
 loop-again : tie.Need-loop-again Inv-loop μ-loop
 loop-again c =
-    (search needs, next-new (c .before .before .before .before .before .args .list .now) (c .before .before .before .loop .i) (omega arith) (omega arith) (c .before .before .before .loop .met) (c .before .before .before .loop .inv .1) (c .if1 .taken))
+    let list = c .before .before .before .before .before .args .list .now in
+    let l = c .before .before .before .loop in
+    (search needs, next-new list (l .i) (omega arith) (omega arith) (l .met) (l .inv .1) (c .if1 .taken))
 
 mul-place-of : tie.Need-mul-place-of Inv-loop μ-loop
 mul-place-of c = search needs
@@ -59,16 +61,19 @@ sub-if2 c = search needs
 
 returns : tie.Need-returns Inv-loop μ-loop
 returns c =
-    let x = getD (c .before .before .before .before .before .before .before .before .args .list .now) (c .before .before .before .before .before .before .loop .i - 1) 0 in
-    met-twice (c .before .before .before .before .before .before .before .before .args .list .now) (c .before .before .before .before .before .before .loop .i) (omega arith) (omega arith) (stands-left (c .before .before .before .before .before .before .before .before .args .list .now) (c .before .before .before .before .before .before .loop .i) x (c .before .place-of .result) (c .before .place-of .ensures) (c .if2 .taken))
+    let list = c .before .before .before .before .before .before .before .before .args .list .now in
+    let i = c .before .before .before .before .before .before .loop .i in
+    met-twice list i (omega arith) (omega arith) (stands-left list i (getD list (i - 1) 0) (c .before .place-of .result) (c .before .place-of .ensures) (c .if2 .taken))
 
 loop-less-2 : tie.Need-loop-less-2 Inv-loop μ-loop
 loop-less-2 c = search needs
 
 loop-again-2 : tie.Need-loop-again-2 Inv-loop μ-loop
 loop-again-2 c =
-    let x = getD (c .before .before .before .before .before .before .before .before .args .list .now) (c .before .before .before .before .before .before .loop .i - 1) 0 in
-    (search needs, next-again (c .before .before .before .before .before .before .before .before .args .list .now) (c .before .before .before .before .before .before .loop .i) (omega arith) (omega arith) (c .before .before .before .before .before .before .loop .met) (c .before .before .before .before .before .before .loop .inv .1) (c .before .before .before .if1 .left) (not-left (c .before .before .before .before .before .before .before .before .args .list .now) (c .before .before .before .before .before .before .loop .i) x (c .before .place-of .result) (c .before .place-of .ensures) (c .if2 .left)))
+    let list = c .before .before .before .before .before .before .before .before .args .list .now in
+    let l = c .before .before .before .before .before .before .loop in
+    let new = not-left list (l .i) (getD list (l .i - 1) 0) (c .before .place-of .result) (c .before .place-of .ensures) (c .if2 .left) in
+    (search needs, next-again list (l .i) (omega arith) (omega arith) (l .met) (l .inv .1) (c .before .before .before .if1 .left) new)
 
 returns-2 : tie.Need-returns-2 Inv-loop μ-loop
 returns-2 c = met-once (c .before .before .before .args .list .now) (c .before .loop .i) (c .before .loop .met) (c .before .loop .inv .1) (omega arith)
