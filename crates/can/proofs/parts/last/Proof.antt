@@ -70,7 +70,7 @@ finished-requires c κs =
 
 returns-6 : tie.Need-returns-6
 returns-6 c = (
-  last-done (c .before .before .before .before .before .before .before .before .before .before .before .before .before .args .j) (c .before .before .before .before .before .before .before .before .before .before .before .before .before .args .n) (c .before .before .before .before .before .before .before .before .before .before .before .before .before .args .f) (c .before .before .before .before .before .before .before .before .before .before .before .before .if1 .left) (search (needs, c .before .before .before .before .before .before .before .before .before .before .before .before .before .good .1)) (c .before .before .before .before .before .before .before .before .before .before .if2 .left) (c .before .before .before .before .before .before .before .before .if3 .left) (c .finished .result) (c .before .before .before .before .dropped .result) (passed _ _ (c .before .before .before .before .before .before .if4 .left) (c .before .before .before .before .before .before .before .has-begun .ensures)) (sym (c .before .before .before .overflows .ensures) ∙ c .before .before .if5 .left) (c .finished .ensures) (c .before .before .before .before .dropped .ensures),
+  last-done (c .before .before .before .before .before .before .before .before .before .before .before .before .before .args .j) (c .before .before .before .before .before .before .before .before .before .before .before .before .before .args .n) (c .before .before .before .before .before .before .before .before .before .before .before .before .before .args .f) (c .before .before .before .before .before .before .before .before .before .before .before .before .if1 .left) (search (needs, c .before .before .before .before .before .before .before .before .before .before .before .before .before .good .1)) (c .before .before .before .before .before .before .before .before .before .before .if2 .left) (c .before .before .before .before .before .before .before .before .if3 .left) (c .finished .result) _ (passed _ _ (c .before .before .before .before .before .before .if4 .left) (c .before .before .before .before .before .before .before .has-begun .ensures)) (sym (c .before .before .before .overflows .ensures) ∙ c .before .before .if5 .left) (c .finished .ensures) (search (needs, c .before .before .before .before .dropped .ensures)),
   λ z _. absurd (z refl),
 )
 

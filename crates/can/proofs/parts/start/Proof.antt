@@ -33,8 +33,8 @@ returns-3 : tie.Need-returns-3
 returns-3 c = (
   c .quiet3 .ensures .0
       ∙ twenty (c .before .before .before .before .before .before .before .args .j) (c .before .before .before .before .before .before .before .args .n) (c .before .before .before .before .before .before .before .args .f) Start (c .before .before .before .before .before .before .if1 .left) (ap not (eq-eqb (c .before .before .before .before .before .before .before .args .f .length) 8 (c .before .before .before .before .if2 .left))) refl refl
-      (third-new (c .before .before .before .before .before .before .before .args .n) (c .before .before .before .before .before .before .before .args .j) (c .before .before .before .dropped .result) (c .before .before .before .before .before .before .before .pre) (c .before .before .before .dropped .ensures) (c .before .if3 .taken))
-      (third-two (c .before .before .before .before .before .before .before .args .n) (c .before .before .before .before .before .before .before .args .j) (c .before .before .before .dropped .result) (c .before .before .before .before .before .before .before .pre) (c .before .before .before .dropped .ensures) (c .before .if3 .taken)),
+      (third-new (c .before .before .before .before .before .before .before .args .n) (c .before .before .before .before .before .before .before .args .j) (c .before .before .before .dropped .result) (c .before .before .before .before .before .before .before .pre) (c .before .before .before .dropped .ensures) (omega (arith, c .before .if3 .taken)))
+      (third-two (c .before .before .before .before .before .before .before .args .n) (c .before .before .before .before .before .before .before .args .j) (c .before .before .before .dropped .result) (c .before .before .before .before .before .before .before .pre) (c .before .before .before .dropped .ensures) (omega (arith, c .before .if3 .taken))),
   λ _ _. c .quiet3 .ensures .1 .1,
 )
 
