@@ -1,5 +1,8 @@
 // The CAN side.
 ghost use mathlib.Core.Path.{_≡_};
+ghost use lib.ListN.{drop};
+ghost use Rattle.text.specs.Text.{filledAt, endAt};
+ghost use Rattle.framing.specs.Lines.{textOf as frameText};
 ghost use Rattle.can_rules.specs.Aliases.{listed};
 ghost use Rattle.can_rules.specs.Joining.{join as joinOf};
 ghost use Rattle.can_rules.specs.Splitting.{splitTold, outAfterSplit};
@@ -39,4 +42,12 @@ pub extern "C" fn hrislanoth_split(
 {
     let m = message_from(message);
     flat_writing(can::split(aliases, nodes, m, content, out))
+}
+
+#[no_mangle]
+pub extern "C" fn hrislanoth_frame_text(file: &[u8], skip: usize, text: &mut [u8]) -> usize
+    ensures { λ r. ⌜ r ≡ endAt 0 (drop skip (frameText (now (file .entry)))) (now (text .entry)) ⌝ }
+    ensures { λ _. ⌜ now (text .exit) ≡ filledAt 0 (drop skip (frameText (now (file .entry)))) (now (text .entry)) ⌝ }
+{
+    framing::frame_text(file, skip, text)
 }

@@ -1,0 +1,10 @@
+pub mod Good
+pub mod Texts
+pub mod Places
+pub mod Handing
+pub mod Sizes
+pub mod Showing
+pub mod Running
+pub mod Started
+pub mod Longest
+pub mod Parts
