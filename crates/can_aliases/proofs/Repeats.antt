@@ -1,7 +1,7 @@
 -- A number that stands twice, looked for from the end of a list on, with a mark for the low bits of each number that was met.
 use Prim.Native.Nat.{ℕ, zero, suc, _-_, _%_, _≤_, _<_}
 use mathlib.Core.Path.{_≡_, refl, sym, ap, ap₂, subst, _∙_}
-use mathlib.Core.Bool.{Bool, true, false, _||_, or-true, false≢true}
+use mathlib.Core.Bool.{Bool, true, false, _&&_, _||_, or-true, false≢true}
 use mathlib.Core.List.{List, [], _∷_}
 use native.Mathlib.Nat.{mod-lt}
 use native.Mathlib.Omega.{arith}
@@ -26,34 +26,25 @@ pub record Met (met marks : List ℕ) : Type 0 where
   pub marked : (x : ℕ) → among met x ≡ true → getD marks (low x) 0 ≡ 0 → ⊥
   pub room : length marks ≡ 0x1000
 
-pub met-none : (l marks : List ℕ) → length marks ≡ 0x1000 → Met (drop (length l) l) marks
-met-none l marks e = rw drop-length (record { once = refl; marked = λ x h. absurd (false≢true h); room = e })
+pub met-none : (marks : List ℕ) → length marks ≡ 0x1000 → Met [] marks
+met-none marks e = (record { once = refl; marked = λ x h. absurd (false≢true h); room = e })
 
--- One more is met: its mark is new, or it is none of those that have the mark.
+-- One more is met that is none of those that were: its mark is set, whatever it was.
 module _ {met marks : List ℕ} (m : Met met marks) (x : ℕ) where
-  unmarked : getD marks (low x) 0 ≡ 0 → among met x ≡ false
-  unmarked e = go (among met x) refl
+  -- It is none of them where its mark is not set, and where it was looked for.
+  pub new : (asked : Bool) → (asked ≡ false → getD marks (low x) 0 ≡ 0) → (asked && among met x) ≡ false → among met x ≡ false
+  new true f e = e
+  new false f e = go (among met x) refl
     where
       go : (t : Bool) → among met x ≡ t → t ≡ false
-      go true h = absurd (m .marked x h e)
+      go true h = absurd (m .marked x h (f refl))
       go false h = refl
 
-  met-again : (getD marks (low x) 0 ≡ 0 → ⊥) → among met x ≡ false → Met (x ∷ met) marks
-  met-again e new = record {
-    once = ap₂ (λ (s t : Bool). s || t) new (m .once);
-    marked = λ y h. go y (eqb x y) refl h;
-    room = m .room;
-  }
-    where
-      go : (y : ℕ) (t : Bool) → eqb x y ≡ t → (t || among met y) ≡ true → getD marks (low y) 0 ≡ 0 → ⊥
-      go y true f h z = e (ap (λ (k : ℕ). getD marks (low k) 0) (eqb-true x y f) ∙ z)
-      go y false f h z = m .marked y h z
-
-  met-new : getD marks (low x) 0 ≡ 0 → Met (x ∷ met) (set marks (low x) 1)
-  met-new e = record {
-    once = ap₂ (λ (s t : Bool). s || t) (unmarked e) (m .once);
+  pub met-more : among met x ≡ false → (v : ℕ) → (v ≡ 0 → ⊥) → Met (x ∷ met) (set marks (low x) v)
+  met-more e v some = record {
+    once = ap₂ (λ (s t : Bool). s || t) e (m .once);
     marked = λ y h. go y (eqb (low y) (low x)) refl h;
-    room = length-set marks (low x) 1 ∙ m .room;
+    room = length-set marks (low x) v ∙ m .room;
   }
     where
       inside : low x < length marks
@@ -63,11 +54,11 @@ module _ {met marks : List ℕ} (m : Met met marks) (x : ℕ) where
       other y true f n h z = n (ap low (sym (eqb-true x y f)))
       other y false f n h z = m .marked y h z
 
-      go : (y : ℕ) (t : Bool) → eqb (low y) (low x) ≡ t → (eqb x y || among met y) ≡ true → getD (set marks (low x) 1) (low y) 0 ≡ 0 → ⊥
-      go y true f h z = omega (arith, sym (getD-set-same marks (low x) 1 0 inside) ∙ ap (λ (k : ℕ). getD (set marks (low x) 1) k 0) (sym (eqb-true (low y) (low x) f)) ∙ z)
+      go : (y : ℕ) (t : Bool) → eqb (low y) (low x) ≡ t → (eqb x y || among met y) ≡ true → getD (set marks (low x) v) (low y) 0 ≡ 0 → ⊥
+      go y true f h z = some (sym (getD-set-same marks (low x) v 0 inside) ∙ ap (λ (k : ℕ). getD (set marks (low x) v) k 0) (sym (eqb-true (low y) (low x) f)) ∙ z)
       go y false f h z =
           let n = eqb-false (low y) (low x) f in
-          other y (eqb x y) refl n h (sym (getD-set-other marks (low x) (low y) 1 0 n) ∙ z)
+          other y (eqb x y) refl n h (sym (getD-set-other marks (low x) (low y) v 0 n) ∙ z)
 
 -- ---- from a place to the one before it
 
@@ -77,36 +68,24 @@ repeats-in-rest l zero h = h
 repeats-in-rest [] (suc i) h = h
 repeats-in-rest (x ∷ xs) (suc i) h = ap (λ (t : Bool). among xs x || t) (repeats-in-rest xs i h) ∙ or-true (among xs x)
 
+any-in-rest : (test : ℕ → Bool) (l : List ℕ) (i : ℕ) → any test (drop i l) ≡ true → any test l ≡ true
+any-in-rest test l zero h = h
+any-in-rest test [] (suc i) h = h
+any-in-rest test (x ∷ xs) (suc i) h = ap (λ (t : Bool). test x || t) (any-in-rest test xs i h) ∙ or-true (test x)
+
 module _ (l : List ℕ) (i : ℕ) (h : 0 < i) (g : i ≤ length l) where
-  before : getD l (i - 1) 0 ∷ drop i l ≡ drop (i - 1) l
+  pub before : getD l (i - 1) 0 ∷ drop i l ≡ drop (i - 1) l
   before = let next : suc (i - 1) ≡ i = omega arith in sym (drop-cons l (i - 1) 0 (omega arith) ∙ ap (λ (k : ℕ). getD l (i - 1) 0 ∷ drop k l) next)
 
-  -- A number that stands among those after it stands twice.
-  pub met-twice : among (drop i l) (getD l (i - 1) 0) ≡ true → true ≡ repeats l
-  met-twice e = sym (repeats-in-rest l (i - 1) (ap repeats (sym before) ∙ ap (λ (t : Bool). t || repeats (drop i l)) e))
+  -- A number that stands among those after it stands twice, and one that passes a test is one that does.
+  pub met-twice : among (drop i l) (getD l (i - 1) 0) ≡ true → repeats l ≡ true
+  met-twice e = repeats-in-rest l (i - 1) (ap repeats (sym before) ∙ ap (λ (t : Bool). t || repeats (drop i l)) e)
 
-  module _ (marks : List ℕ) (m : Met (drop i l) marks) where
-    pub next-new : getD marks (low (getD l (i - 1) 0)) 0 ≡ 0 → Met (drop (i - 1) l) (set marks (low (getD l (i - 1) 0)) 1)
-    next-new e = subst (λ (r : List ℕ). Met r (set marks (low (getD l (i - 1) 0)) 1)) before (met-new m (getD l (i - 1) 0) e)
+  pub met-one : (test : ℕ → Bool) → test (getD l (i - 1) 0) ≡ true → any test l ≡ true
+  met-one test e = any-in-rest test l (i - 1) (ap (any test) (sym before) ∙ ap (λ (t : Bool). t || any test (drop i l)) e)
 
-    pub next-again : (getD marks (low (getD l (i - 1) 0)) 0 ≡ 0 → ⊥) → among (drop i l) (getD l (i - 1) 0) ≡ false → Met (drop (i - 1) l) marks
-    next-again e new = subst (λ (r : List ℕ). Met r marks) before (met-again m (getD l (i - 1) 0) e new)
-
--- ---- what is left of a list, as it is lent
-
-module _ (l : List ℕ) (i x place : ℕ) (e : place ≡ placeIn (take (length l - i) (drop i l)) x) where
-  whole : take (length l - i) (drop i l) ≡ drop i l
-  whole = take-all (length l - i) (drop i l) (omega (arith, length-drop i l))
-
-  tested : ltb place (length l - i) ≡ among (drop i l) x
-  tested = ap₂ ltb (e ∙ ap (λ (r : List ℕ). placeIn r x) whole) (sym (length-drop i l)) ∙ stands-inside (drop i l) x
-
-  pub stands-left : place < length l - i → among (drop i l) x ≡ true
-  stands-left h = sym tested ∙ lt-ltb place (length l - i) h
-
-  pub not-left : length l - i ≤ place → among (drop i l) x ≡ false
-  not-left h = sym tested ∙ le-ltb place (length l - i) h
-
--- All were met.
-pub met-once : (l : List ℕ) (i : ℕ) (marks : List ℕ) → Met (drop i l) marks → i ≡ 0 → false ≡ repeats l
-met-once l i marks m e = sym (ap (λ (k : ℕ). repeats (drop k l)) (sym e) ∙ m .once)
+-- What is left of a list, as it is lent.
+pub stands-left : (l : List ℕ) (i x place : ℕ) → place ≡ placeIn (take (length l - i) (drop i l)) x → ltb place (length l - i) ≡ among (drop i l) x
+stands-left l i x place e =
+    let whole : take (length l - i) (drop i l) ≡ drop i l = take-all (length l - i) (drop i l) (omega (arith, length-drop i l)) in
+    ap₂ ltb (e ∙ ap (λ (r : List ℕ). placeIn r x) whole) (sym (length-drop i l)) ∙ stands-inside (drop i l) x

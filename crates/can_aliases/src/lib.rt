@@ -1,10 +1,15 @@
 // The list of aliases, lent as two lists: node i stands behind alias i.
 ghost use mathlib.Core.Path.{_≡_};
+ghost use mathlib.Core.Bool.{_&&_, _||_};
+ghost use Prim.Native.Nat.{_≤_};
+ghost use lib.Dec.{eqb};
+ghost use lib.ListN.{length, drop};
 ghost use Rattle.basics.specs.Lists.{any};
 ghost use Rattle.message.specs.Messages.{badNode};
-ghost use Rattle.can_rules.specs.Aliases.{listed, repeats, badAlias, badAliases, placeIn, nodeFor, aliasFor};
+ghost use Rattle.can_rules.specs.Aliases.{listed, badAlias, badAliases, placeIn, nodeFor, aliasFor};
+ghost use Rattle.can_aliases.specs.Parts.{anyBad};
 
-// Whether the list is out of bounds; the tests that cost little come first.
+// Whether the list is out of bounds.
 pub fn out_of_bounds(aliases: &[u64], nodes: &[u64]) -> bool
     ensures { λ yes. ⌜ yes ≡ badAliases (listed (now (aliases .entry)) (now (nodes .entry))) ⌝ }
 {
@@ -14,62 +19,57 @@ pub fn out_of_bounds(aliases: &[u64], nodes: &[u64]) -> bool
     if 128 < nodes.len() {
         return true;
     }
-    if any_bad_node(nodes) {
-        return true;
-    }
-    if any_bad_alias(aliases) {
-        return true;
-    }
-    if repeated(aliases) {
-        return true;
-    }
-    repeated(nodes)
+    any_bad(aliases, nodes)
 }
 
-fn any_bad_node(nodes: &[u64]) -> bool
-    ensures { λ yes. ⌜ yes ≡ any badNode (now (nodes .entry)) ⌝ }
-{
-    let mut i = 0;
-    while i < nodes.len() {
-        if message::bad_node(nodes[i]) {
-            return true;
-        }
-        i += 1;
-    }
-    false
-}
-
-fn any_bad_alias(aliases: &[u64]) -> bool
-    ensures { λ yes. ⌜ yes ≡ any badAlias (now (aliases .entry)) ⌝ }
-{
-    let mut i = 0;
-    while i < aliases.len() {
-        if 0xFFF < aliases[i] {
-            return true;
-        }
-        i += 1;
-    }
-    false
-}
-
-// Whether a number stands twice. Numbers that are the same have the same low 12 bits: only where those were met are the numbers compared.
-fn repeated(list: &[u64]) -> bool
-    ensures { λ yes. ⌜ yes ≡ repeats (now (list .entry)) ⌝ }
+// Whether an alias or a Node ID is bad or stands twice. Numbers that are the same have the same low 12 bits: only where those were met are the numbers compared.
+// Of what is met at a place, the low bit is for aliases and the next for Node IDs, so that one array is cleared and one pass is made.
+fn any_bad(aliases: &[u64], nodes: &[u64]) -> bool
+    requires { ⌜ length (now aliases) ≡ length (now nodes) ⌝ }
+    ensures { λ yes. ⌜ yes ≡ anyBad (now (aliases .entry)) (now (nodes .entry)) ⌝ }
 {
     let mut met = [0u8; 4096];
-    let mut i = list.len();
+    let mut i = nodes.len();
     while 0 < i {
         let after = i;
         i -= 1;
-        let x = list[i];
-        let low = (x % 0x1000) as usize;
-        if met[low] == 0 {
-            met[low] = 1;
-            continue;
-        }
-        if place_of(&list[after..], x) < list.len() - after {
+        let alias = aliases[i];
+        let node = nodes[i];
+        if bad_pair(alias, node) {
             return true;
         }
+        let alias_at = (alias % 0x1000) as usize;
+        let old = met[alias_at];
+        if stands_after(old % 2 == 1, aliases, after, alias) {
+            return true;
+        }
+        met[alias_at] = old / 2 % 2 * 2 + 1;
+        let node_at = (node % 0x1000) as usize;
+        let had = met[node_at];
+        if stands_after(2 <= had, nodes, after, node) {
+            return true;
+        }
+        met[node_at] = had % 2 + 2;
+    }
+    false
+}
+
+fn bad_pair(alias: u64, node: u64) -> bool
+    ensures { λ yes. ⌜ yes ≡ (badAlias alias || badNode node) ⌝ }
+{
+    if 0xFFF < alias {
+        return true;
+    }
+    message::bad_node(node)
+}
+
+// Whether a number stands in a list from a place on; it is asked only where its low bits were met.
+fn stands_after(met: bool, list: &[u64], after: usize, x: u64) -> bool
+    requires { ⌜ after ≤ length (now list) ⌝ }
+    ensures { λ yes. ⌜ yes ≡ (met && any (λ y. eqb y x) (drop after (now (list .entry)))) ⌝ }
+{
+    if met {
+        return place_of(&list[after..], x) < list.len() - after;
     }
     false
 }
