@@ -2,12 +2,12 @@
 use Prim.Native.Nat.{ℕ, zero, suc, _+_, _-_, _*_, _/_, _%_, _^_, _≤_, _<_}
 use mathlib.Core.Path.{_≡_, refl, sym, ap, ap₂, _∙_}
 use mathlib.Core.List.{List, [], _∷_, _++_, append-assoc, append-nil}
-use native.Mathlib.Nat.{add-zero, add-suc, mul-one, mul-assoc, pow-zero, pow-suc, div-div-eq-div-mul}
+use native.Mathlib.Nat.{add-zero, add-suc, mul-one, mul-assoc, pow-zero, pow-suc}
 use native.Mathlib.Numerals.{add-one}
 use native.Mathlib.Omega.{arith}
-use lib.ListN.{length, take, drop, set, replicate, length-append, length-set, replicate-append-replicate}
+use lib.ListN.{length, take, drop, replicate, length-append, replicate-append-replicate}
 use lib.Pow.{pow-add, shl-exact}
-use lib.Seq.{set-split}
+use lib.Seq.{length-take-le, take-at, drop-at, drop-drop}
 use Rattle.numbers.specs.Numbers.{numberIn, bytesOf, Bytes, pasted, numberPut}
 use Rattle.numbers.proofs.Laws.{number-below, bytes-length, bytes-of-number, put-where-room}
 use Rattle.numbers.proofs.Pasting.{pasted-next, pasted-length}
@@ -21,12 +21,45 @@ pub next : (at k place : ℕ) (xs ys out : List ℕ) → length xs ≡ k → pla
 next at k place xs ys out e p h =
     ap (λ (n : ℕ). pasted n ys (pasted at xs out)) (p ∙ ap (λ (n : ℕ). at + n) (sym e)) ∙ pasted-next at xs ys out (omega arith)
 
-one-put : (at v : ℕ) (out : List ℕ) → at < length out → set out at v ≡ pasted at (v ∷ []) out
-one-put at v out h = set-split out at v h ∙ ap (λ (k : ℕ). take at out ++ (v ∷ drop k out)) (sym (add-one at))
+-- What is put over a shorter piece covers it.
+covered : (at : ℕ) (zs ys out : List ℕ) → at ≤ length out → length zs ≤ length ys → pasted at ys (pasted at zs out) ≡ pasted at ys out
+covered at zs ys out h g =
+    let more = length ys - length zs in
+    let rest = drop (at + length zs) out in
+    let size : length (take at out) ≡ at = length-take-le at out h in
+    let front : take at (pasted at zs out) ≡ take at out = take-at (take at out) (zs ++ rest) at size in
+    let both : length ys ≡ length zs + more = omega arith in
+    let far : at + length zs + more ≡ at + length ys = omega arith in
+    let back : drop (at + length ys) (pasted at zs out) ≡ drop (at + length ys) out
+    = sym (drop-drop (length ys) at (pasted at zs out))
+    ∙ ap (drop (length ys)) (drop-at (take at out) (zs ++ rest) at size)
+    ∙ ap (λ (n : ℕ). drop n (zs ++ rest)) both
+    ∙ sym (drop-drop more (length zs) (zs ++ rest))
+    ∙ ap (drop more) (drop-at zs rest (length zs) refl)
+    ∙ drop-drop more (at + length zs) out
+    ∙ ap (λ (n : ℕ). drop n out) far in
+    ap₂ (λ (f b : List ℕ). f ++ (ys ++ b)) front back
 
-two-and-two : (x : ℕ) → bytesOf 2 (x / 0x10000) ++ bytesOf 2 x ≡ bytesOf 4 x
+-- Header and length as one number of eight bytes, three of them zero.
+front-bytes : (header size : ℕ) → size < 256
+    → bytesOf 8 (header * 0x100000000 + size * 0x1000000) ≡ (bytesOf 4 header ++ (size ∷ [])) ++ (0 ∷ 0 ∷ 0 ∷ [])
 unfolding bytesOf
-two-and-two x = ap (λ (y : ℕ). bytesOf 2 y ++ bytesOf 2 x) (sym (div-div-eq-div-mul x 256 256))
+front-bytes header size few =
+    let five = bytesOf 4 header ++ (size ∷ []) in
+    let a : (header * 0x100000000 + size * 0x1000000) / 256 ≡ header * 0x1000000 + size * 0x10000 = omega arith in
+    let b : (header * 0x1000000 + size * 0x10000) / 256 ≡ header * 0x10000 + size * 0x100 = omega arith in
+    let d : (header * 0x10000 + size * 0x100) / 256 ≡ header * 0x100 + size = omega arith in
+    let e : (header * 0x100 + size) / 256 ≡ header = omega arith in
+    let a₀ : (header * 0x100000000 + size * 0x1000000) % 256 ≡ 0 = omega arith in
+    let b₀ : (header * 0x1000000 + size * 0x10000) % 256 ≡ 0 = omega arith in
+    let d₀ : (header * 0x10000 + size * 0x100) % 256 ≡ 0 = omega arith in
+    let e₀ : (header * 0x100 + size) % 256 ≡ size = omega arith in
+    ap₂ (λ (x y : ℕ). bytesOf 7 x ++ (y ∷ [])) a a₀
+    ∙ ap₂ (λ (x y : ℕ). (bytesOf 6 x ++ (y ∷ [])) ++ (0 ∷ [])) b b₀
+    ∙ ap₂ (λ (x y : ℕ). ((bytesOf 5 x ++ (y ∷ [])) ++ (0 ∷ [])) ++ (0 ∷ [])) d d₀
+    ∙ ap₂ (λ (x y : ℕ). (((bytesOf 4 x ++ (y ∷ [])) ++ (0 ∷ [])) ++ (0 ∷ [])) ++ (0 ∷ [])) e e₀
+    ∙ append-assoc (five ++ (0 ∷ [])) (0 ∷ []) (0 ∷ [])
+    ∙ append-assoc five (0 ∷ []) (0 ∷ 0 ∷ [])
 
 -- The header's four bytes, the length, and eight bytes of a number.
 abbrev pub spelledOut : ℕ → ℕ → ℕ → List ℕ
@@ -35,32 +68,26 @@ spelledOut header size number = bytesOf 4 header ++ ((size ∷ []) ++ bytesOf 8 
 pub spelled-length : (header size number : ℕ) → length (spelledOut header size number) ≡ 13
 spelled-length header size number = length-append (bytesOf 4 header) ((size ∷ []) ++ bytesOf 8 number) ∙ omega (arith, bytes-length 4 header, bytes-length 8 number)
 
-pub frame-put : (header size number at : ℕ) (out high low whole : List ℕ) → at + 13 ≤ length out
-    → high ≡ numberPut (header / 0x10000) 2 at out → low ≡ numberPut header 2 (at + 2) high
-    → whole ≡ numberPut number 8 (at + 5) (set low (at + 4) size)
+pub frame-put : (header size number at : ℕ) (out first whole : List ℕ) → at + 13 ≤ length out → size < 256
+    → first ≡ numberPut (header * 0x100000000 + size * 0x1000000) 8 at out → whole ≡ numberPut number 8 (at + 5) first
     → whole ≡ pasted at (spelledOut header size number) out
-frame-put header size number at out high low whole room e₁ e₂ e₃ =
-    let a = bytesOf 2 (header / 0x10000) in
-    let b = bytesOf 2 header in
+frame-put header size number at out first whole room few e₁ e₂ =
+    let front = header * 0x100000000 + size * 0x1000000 in
+    let five = bytesOf 4 header ++ (size ∷ []) in
     let c = bytesOf 8 number in
-    let la : length a ≡ 2 = bytes-length 2 (header / 0x10000) in
-    let lb : length b ≡ 2 = bytes-length 2 header in
     let lc : length c ≡ 8 = bytes-length 8 number in
-    let s₁ : high ≡ pasted at a out = e₁ ∙ sym (put-where-room (header / 0x10000) 2 at out (omega arith)) in
-    let l₁ : length high ≡ length out = ap length s₁ ∙ pasted-length at a out (omega arith) in
-    let s₂ : low ≡ pasted at (a ++ b) out
-    = e₂ ∙ sym (put-where-room header 2 (at + 2) high (omega arith)) ∙ ap (pasted (at + 2) b) s₁ ∙ next at 2 (at + 2) a b out la refl (omega arith) in
-    let lab : length (a ++ b) ≡ 4 = length-append a b ∙ omega arith in
-    let l₂ : length low ≡ length out = ap length s₂ ∙ pasted-length at (a ++ b) out (omega arith) in
-    let s₃ : set low (at + 4) size ≡ pasted at ((a ++ b) ++ (size ∷ [])) out
-    = one-put (at + 4) size low (omega arith) ∙ ap (pasted (at + 4) (size ∷ [])) s₂ ∙ next at 4 (at + 4) (a ++ b) (size ∷ []) out lab refl (omega arith) in
-    let l₃ : length (set low (at + 4) size) ≡ length out = length-set low (at + 4) size ∙ l₂ in
-    let labs : length ((a ++ b) ++ (size ∷ [])) ≡ 5 = length-append (a ++ b) (size ∷ []) ∙ omega arith in
-    e₃
-    ∙ sym (put-where-room number 8 (at + 5) (set low (at + 4) size) (omega arith))
-    ∙ ap (pasted (at + 5) c) s₃
-    ∙ next at 5 (at + 5) ((a ++ b) ++ (size ∷ [])) c out labs refl (omega arith)
-    ∙ ap (λ (l : List ℕ). pasted at l out) (append-assoc (a ++ b) (size ∷ []) c ∙ ap (λ (h : List ℕ). h ++ ((size ∷ []) ++ c)) (two-and-two header))
+    let l₅ : length five ≡ 5 = length-append (bytesOf 4 header) (size ∷ []) ∙ omega (arith, bytes-length 4 header) in
+    let s₁ : first ≡ pasted at (bytesOf 8 front) out = e₁ ∙ sym (put-where-room front 8 at out (omega arith)) in
+    let l₁ : length first ≡ length out = ap length s₁ ∙ pasted-length at (bytesOf 8 front) out (omega (arith, bytes-length 8 front)) in
+    let s₂ : first ≡ pasted (at + 5) (0 ∷ 0 ∷ 0 ∷ []) (pasted at five out)
+    = s₁ ∙ ap (λ (l : List ℕ). pasted at l out) (front-bytes header size few) ∙ sym (next at 5 (at + 5) five (0 ∷ 0 ∷ 0 ∷ []) out l₅ refl (omega arith)) in
+    let l₂ : length (pasted at five out) ≡ length out = pasted-length at five out (omega arith) in
+    e₂
+    ∙ sym (put-where-room number 8 (at + 5) first (omega arith))
+    ∙ ap (pasted (at + 5) c) s₂
+    ∙ covered (at + 5) (0 ∷ 0 ∷ 0 ∷ []) c (pasted at five out) (omega arith) (omega arith)
+    ∙ next at 5 (at + 5) five c out l₅ refl (omega arith)
+    ∙ ap (λ (l : List ℕ). pasted at l out) (append-assoc (bytesOf 4 header) (size ∷ []) c)
 
 -- ---- which frame it is
 

@@ -127,13 +127,12 @@ fn put_pieces(alias: u64, payload: &[u8], out: &mut [u8])
     );
 }
 
-// Writes a frame with the number's eight bytes; its header goes as two numbers of two bytes, which takes no loop.
+// Writes a frame with the number's eight bytes. Header and length go as one number, whose last three bytes the frame's own cover: two stores and no loop.
 fn put_frame(header: u64, size: u8, number: u64, at: usize, out: &mut [u8])
-    requires { ⌜ at + 13 ≤ length (now out) ⌝ }
+    requires { ⌜ (at + 13 ≤ length (now out)) × (header < 0x1_0000_0000) ⌝ }
     ensures { λ _. ⌜ now (out .exit) ≡ pasted at (bytesOf 4 header ++ ((size ∷ []) ++ bytesOf 8 number)) (now (out .entry)) ⌝ }
 {
-    numbers::write_at(header / 0x1_0000, 2, at, out);
-    numbers::write_at(header, 2, at + 2, out);
-    out[at + 4] = size;
+    let front = header * 0x1_0000_0000 + (size as u64) * 0x0100_0000;
+    numbers::write_at(front, 8, at, out);
     numbers::write_at(number, 8, at + 5, out);
 }
