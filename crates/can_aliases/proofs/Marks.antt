@@ -4,14 +4,14 @@ use mathlib.Core.Path.{_≡_, refl, sym, ap, ap₂, subst, subst₂, _∙_}
 use mathlib.Core.Bool.{Bool, true, false, _&&_, _||_, or-true, false≢true}
 use mathlib.Core.List.{List, [], _∷_, map}
 use native.Mathlib.Omega.{arith}
-use borrow.Author.Tests.{eqb-false, leb-false}
+use borrow.Author.Tests.{eqb-true, eqb-false, eq-eqb, leb-false, ltb-false}
 use lib.Dec.{eqb, leb}
-use lib.ListN.{length, drop, getD, set, length-map, List·getD-map}
-use lib.Seq.{drop-length}
+use lib.ListN.{length, drop, getD, set, replicate, length-map, List·getD-map}
+use lib.Seq.{drop-length, getD-set-other}
 use Rattle.basics.specs.Lists.{any}
 use Rattle.basics.proofs.Bools.{both, neither}
 use Rattle.message.specs.Messages.{badNode}
-use Rattle.can_rules.specs.Aliases.{badAlias, repeats}
+use Rattle.can_rules.specs.Aliases.{highestAlias, badAlias, repeats}
 use Rattle.can_aliases.specs.Parts.{anyBad}
 use Rattle.can_aliases.proofs.Repeats.{among, low, Met, met-none, new, met-more, before, met-twice, met-one}
 
@@ -34,6 +34,12 @@ kept f z l i v e = map-set f l i v ∙ ap (set (map f l) i) (e ∙ at) ∙ set-o
     at : f (getD l i 0) ≡ getD (map f l) i 0
     at = sym (List·getD-map f l i 0) ∙ ap (getD (map f l) i) z
 
+-- In an array that was cleared nothing is marked.
+pub all-clear : (n k : ℕ) → _≡_ {A = ℕ} (getD (replicate n 0) k 0) 0
+all-clear zero k = refl
+all-clear (suc n) zero = refl
+all-clear (suc n) (suc k) = all-clear n k
+
 -- ---- the lists from a place on
 
 pub record Good (aliases nodes marks : List ℕ) : Type 0 where
@@ -41,9 +47,10 @@ pub record Good (aliases nodes marks : List ℕ) : Type 0 where
   pub nodesMet : Met nodes (map (λ v. v / 2 % 2) marks)
   pub goodNodes : any badNode nodes ≡ false
   pub goodAliases : any badAlias aliases ≡ false
+  pub marksMet : (k : ℕ) → getD marks k 0 % 2 ≡ 1 → among aliases k ≡ true
 
-pub good-none : (aliases nodes marks : List ℕ) (i : ℕ) → length marks ≡ 0x1000 → i ≡ length aliases → i ≡ length nodes → Good (drop i aliases) (drop i nodes) marks
-good-none aliases nodes marks i e a n =
+pub good-none : (aliases nodes marks : List ℕ) (i : ℕ) → length marks ≡ 0x1000 → ((k : ℕ) → getD marks k 0 ≡ 0) → i ≡ length aliases → i ≡ length nodes → Good (drop i aliases) (drop i nodes) marks
+good-none aliases nodes marks i e clear a n =
     let noAliases : drop i aliases ≡ [] = ap (λ (k : ℕ). drop k aliases) a ∙ drop-length aliases in
     let noNodes : drop i nodes ≡ [] = ap (λ (k : ℕ). drop k nodes) n ∙ drop-length nodes in
     subst₂ (λ (x y : List ℕ). Good x y marks) (sym noAliases) (sym noNodes) (record {
@@ -51,14 +58,14 @@ good-none aliases nodes marks i e a n =
       nodesMet = met-none (map (λ v. v / 2 % 2) marks) (length-map marks (λ v. v / 2 % 2) ∙ e);
       goodNodes = refl;
       goodAliases = refl;
+      marksMet = λ k h. absurd (let z = clear k in omega arith);
     })
 
 module _ {aliases nodes marks : List ℕ} (g : Good aliases nodes marks) (alias node : ℕ) (bad : (badAlias alias || badNode node) ≡ false) where
   -- An alias that is new sets its mark; those of Node IDs stay.
-  module _ (asked : (eqb (getD marks (low alias) 0 % 2) 1 && among aliases alias) ≡ false) where
+  module _ (unset : getD marks (low alias) 0 % 2 ≡ 1 → ⊥) where
     newAlias : among aliases alias ≡ false
-    newAlias = new (g .aliasesMet) alias (eqb (getD marks (low alias) 0 % 2) 1)
-        (λ e. List·getD-map (λ v. v % 2) marks (low alias) 0 ∙ (let other = eqb-false (getD marks (low alias) 0 % 2) 1 e in omega (arith, other))) asked
+    newAlias = new (g .aliasesMet) alias false (λ _. List·getD-map (λ v. v % 2) marks (low alias) 0 ∙ omega (arith, unset)) refl
 
     abbrev once : List ℕ
     once = set marks (low alias) (getD marks (low alias) 0 / 2 % 2 * 2 + 1)
@@ -70,6 +77,19 @@ module _ {aliases nodes marks : List ℕ} (g : Good aliases nodes marks) (alias 
 
     nodesStay : map (λ v. v / 2 % 2) once ≡ map (λ v. v / 2 % 2) marks
     nodesStay = kept (λ v. v / 2 % 2) refl marks (low alias) (getD marks (low alias) 0 / 2 % 2 * 2 + 1) (omega arith)
+
+    -- A mark that is set is that of an alias that was met, or of this one.
+    ownMark : (k : ℕ) → getD once k 0 % 2 ≡ 1 → among (alias ∷ aliases) k ≡ true
+    ownMark k h = go (eqb k (low alias)) refl
+      where
+        own : low alias ≡ alias
+        own = let few = ltb-false highestAlias alias (neither (badAlias alias) (badNode node) bad .0) in omega arith
+
+        go : (t : Bool) → eqb k (low alias) ≡ t → among (alias ∷ aliases) k ≡ true
+        go true e = ap (λ (t : Bool). t || among aliases k) (eq-eqb alias k (sym own ∙ sym (eqb-true k (low alias) e)))
+        go false e =
+            let n = eqb-false k (low alias) e in
+            ap (λ (t : Bool). eqb alias k || t) (g .marksMet k (ap (λ (v : ℕ). v % 2) (sym (getD-set-other marks (low alias) k _ 0 n)) ∙ h)) ∙ or-true (eqb alias k)
 
     -- And so does a Node ID.
     module _ (asked₂ : (leb 2 (getD once (low node) 0) && among nodes node) ≡ false) where
@@ -83,6 +103,11 @@ module _ {aliases nodes marks : List ℕ} (g : Good aliases nodes marks) (alias 
       abbrev twice : List ℕ
       twice = set once (low node) (getD once (low node) 0 % 2 + 2)
 
+      sameMark : (k : ℕ) → getD twice k 0 % 2 ≡ getD once k 0 % 2
+      sameMark k =
+          let f : ℕ → ℕ = λ v. v % 2 in
+          sym (List·getD-map f twice k 0) ∙ ap (λ (l : List ℕ). getD l k 0) (kept f refl once (low node) (getD once (low node) 0 % 2 + 2) (omega arith)) ∙ List·getD-map f once k 0
+
       pub good-more : Good (alias ∷ aliases) (node ∷ nodes) twice
       good-more = record {
         aliasesMet = subst (Met (alias ∷ aliases)) (sym (kept (λ v. v % 2) refl once (low node) (getD once (low node) 0 % 2 + 2) (omega arith))) aliasMet;
@@ -91,6 +116,7 @@ module _ {aliases nodes marks : List ℕ} (g : Good aliases nodes marks) (alias 
             (met-more nodesOnce node newNode ((getD once (low node) 0 % 2 + 2) / 2 % 2) (λ z. omega (arith, z)));
         goodNodes = ap₂ (λ (s t : Bool). s || t) (neither (badAlias alias) (badNode node) bad .1) (g .goodNodes);
         goodAliases = ap₂ (λ (s t : Bool). s || t) (neither (badAlias alias) (badNode node) bad .0) (g .goodAliases);
+        marksMet = λ k h. ownMark k (sym (sameMark k) ∙ h);
       }
 
 -- ---- what is found
@@ -116,8 +142,14 @@ module _ (aliases nodes : List ℕ) where
         go true f e = second-of (any badNode nodes) (any badAlias aliases) (repeats aliases) (repeats nodes) (met-one aliases i h a badAlias f)
         go false f e = first-of (any badNode nodes) (any badAlias aliases) (repeats aliases) (repeats nodes) (met-one nodes i h n badNode e)
 
-    pub alias-twice : (met : Bool) → (met && among (drop i aliases) (getD aliases (i - 1) 0)) ≡ true → true ≡ anyBad aliases nodes
-    alias-twice met e = third-of (any badNode nodes) (any badAlias aliases) (repeats aliases) (repeats nodes) (met-twice aliases i h a (both met _ e .1))
+    pub alias-twice : (marks : List ℕ) → Good (drop i aliases) (drop i nodes) marks → (badAlias (getD aliases (i - 1) 0) || badNode (getD nodes (i - 1) 0)) ≡ false
+        → getD marks (low (getD aliases (i - 1) 0)) 0 % 2 ≡ 1 → true ≡ anyBad aliases nodes
+    alias-twice marks g bad e =
+        let alias = getD aliases (i - 1) 0 in
+        let few = ltb-false highestAlias alias (neither (badAlias alias) (badNode (getD nodes (i - 1) 0)) bad .0) in
+        let own : low alias ≡ alias = omega arith in
+        third-of (any badNode nodes) (any badAlias aliases) (repeats aliases) (repeats nodes)
+        (met-twice aliases i h a (ap (among (drop i aliases)) (sym own) ∙ g .marksMet (low alias) e))
 
     pub node-twice : (met : Bool) → (met && among (drop i nodes) (getD nodes (i - 1) 0)) ≡ true → true ≡ anyBad aliases nodes
     node-twice met e = fourth-of (any badNode nodes) (any badAlias aliases) (repeats aliases) (repeats nodes) (met-twice nodes i h n (both met _ e .1))

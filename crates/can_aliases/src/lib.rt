@@ -22,8 +22,8 @@ pub fn out_of_bounds(aliases: &[u64], nodes: &[u64]) -> bool
     any_bad(aliases, nodes)
 }
 
-// Whether an alias or a Node ID is bad or stands twice. Numbers that are the same have the same low 12 bits: only where those were met are the numbers compared.
-// Of what is met at a place, the low bit is for aliases and the next for Node IDs, so that one array is cleared and one pass is made.
+// Whether an alias or a Node ID is bad or stands twice. Of what is met at a place, the low bit is for aliases, which are no more than 12 bits, and the next for the
+// low 12 bits of Node IDs: only where those were met are Node IDs compared. So one array is cleared and one pass is made.
 fn any_bad(aliases: &[u64], nodes: &[u64]) -> bool
     requires { ⌜ length (now aliases) ≡ length (now nodes) ⌝ }
     ensures { λ yes. ⌜ yes ≡ anyBad (now (aliases .entry)) (now (nodes .entry)) ⌝ }
@@ -40,7 +40,7 @@ fn any_bad(aliases: &[u64], nodes: &[u64]) -> bool
         }
         let alias_at = (alias % 0x1000) as usize;
         let old = met[alias_at];
-        if stands_after(old % 2 == 1, aliases, after, alias) {
+        if old % 2 == 1 {
             return true;
         }
         met[alias_at] = old / 2 % 2 * 2 + 1;

@@ -27,7 +27,7 @@ same-length : tie.Need-same-length
 same-length c = c .before .before .write-at2 .kept .1 .1 .1 .0 ∙ c .before .before .before .before .before .before .write-at .kept .1 .1 .1 .0
 
 returns : tie.Need-returns
-returns c = 
+returns c =
     frame-put (c .before .before .before .before .before .before .before .before .before .args .header) (c .before .before .before .before .before .before .before .before .before .args .size) (c .before .before .before .before .before .before .before .before .before .args .number) (c .before .before .before .before .before .before .before .before .before .args .at) (c .before .before .before .before .before .before .before .before .before .args .out .now) _ _ (c .before .before .before .before .before .before .before .before .before .pre .0) (search needs) (c .before .before .before .before .before .before .write-at .ensures) (c .before .before .write-at2 .ensures)
 
 pub put-frame-spec : {M : Type 1} → statement M
