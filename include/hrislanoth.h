@@ -1,6 +1,6 @@
 /* The proved box and boards, for C and for what links with C.
  *
- * Every function answers every input that C can write down: a refusal has a number (document 01, "Refusal numbers", and 15 of document 02), 0 is none. A refusal changes
+ * Every function answers every input that C can write down: a refusal has a number (document 01, "Refusal numbers", and 15 to 20 and 29 of document 02), 0 is none. A refusal changes
  * no output byte; a box or a board comes back as it was, a lent box's marks and count as they were, and every other number beside it is 0. Nothing is kept
  * between calls and nothing is allocated.
  *
@@ -60,7 +60,7 @@ typedef struct {
     size_t content_at;
 } hrislanoth_reading;
 
-/* How many bytes were written, or refusal 2 to 6. */
+/* How many bytes were written, or the refusal: 2 to 6 of a message, 2 to 7, 16 or 29 of a split. */
 typedef struct {
     uint8_t refusal;
     size_t bytes;
@@ -77,7 +77,7 @@ hrislanoth_writing hrislanoth_write(hrislanoth_message message, const uint8_t *c
  * twice: 7.
  */
 
-/* 29 bits of the header are used, and the first length bytes. */
+/* A header has 29 bits; a number with any of the upper three set is none (29). Of the bytes the first length are used, and the others do not matter. */
 typedef struct {
     uint32_t header;
     uint8_t length;
@@ -92,14 +92,16 @@ typedef struct {
     uint8_t payload[256];
 } hrislanoth_gathered;
 
-/* What up to two senders have begun: of first and second the first count. All zero is the state in which nobody has begun anything. */
+/* What up to two senders have begun: of first and second the first count. All zero is the state in which nobody has begun anything. What stands in a place past the count,
+ * or past a length, is no part of the state: no answer depends on it, and an accepted frame, or 18, may leave anything there. */
 typedef struct {
     size_t count;
     hrislanoth_gathered first;
     hrislanoth_gathered second;
 } hrislanoth_joining;
 
-/* The refusal, or 0; the event report that is handed out, with MTI 05B4 or 0F14, and MTI 0 and zeros beside it where there is none; and the next joining state. */
+/* The refusal, or 0; the event report that is handed out, with MTI 05B4 or 0F14, and MTI 0 where there is none; and the next joining state. Where there is no payload all 256
+ * bytes of it are 0, and where nothing is handed out sender and event are too. */
 typedef struct {
     uint8_t refusal;
     uint16_t mti;
@@ -254,7 +256,7 @@ size_t hrislanoth_trial_text(const uint8_t *file, size_t length, uint8_t *text, 
 size_t hrislanoth_board_text(const uint8_t *file, size_t length, size_t skip, uint8_t *text, size_t room);
 
 /* The text of a frame file from byte skip on (docs/FRAME-FILES.md), as much as fits into text; answers how many bytes that took. No file's text is longer than 867,000 bytes,
- * which is proved. */
+ * which is proved: where fewer bytes than room are answered, the text is at its end. */
 size_t hrislanoth_frame_text(const uint8_t *file, size_t length, size_t skip, uint8_t *text, size_t room);
 
 #ifdef __cplusplus

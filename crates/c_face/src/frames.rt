@@ -6,7 +6,7 @@ ghost use Rattle.framing.specs.Lines.{textOf as frameText};
 ghost use Rattle.can_rules.specs.Aliases.{listed};
 ghost use Rattle.can_rules.specs.Joining.{join as joinOf};
 ghost use Rattle.can_rules.specs.Splitting.{splitTold, outAfterSplit};
-ghost use Rattle.can.specs.States.{stateOf, seenIn, seenOf, refusalKeeps};
+ghost use Rattle.can.specs.States.{stateOf, seenIn, seenOf, refusalKeeps, noPayloadIsZero};
 ghost use Rattle.c_face.specs.Flat.{messageFrom, toldWriting};
 use crate::FlatMessage;
 use crate::FlatWriting;
@@ -25,6 +25,7 @@ pub extern "C" fn hrislanoth_join(
 ) -> Joined
     ensures { λ r. ⌜ seenIn r ≡ seenOf (joinOf (listed (now (aliases .entry)) (now (nodes .entry))) (stateOf state) frame) ⌝ }
     ensures { λ r. ⌜ refusalKeeps state r ⌝ }
+    ensures { λ r. ⌜ noPayloadIsZero r ⌝ }
 {
     can::join(aliases, nodes, state, frame)
 }

@@ -4,7 +4,7 @@ use mathlib.Core.Path.{_≡_}
 use mathlib.Core.Bool.{Bool, cond, _&&_}
 use mathlib.Core.List.{List, [], _∷_}
 use lib.Dec.{ltb}
-use lib.ListN.{length, getD}
+use lib.ListN.{length, getD, replicate}
 use Rattle.basics.specs.Lists.{each, firstOr}
 use Rattle.basics.specs.Refusals.{refuse, firstOf}
 use Rattle.can_rules.specs.declared.Frame.{Frame}
@@ -54,6 +54,10 @@ seenOf o = record { refusal = o .refusal; handed = firstOr silence (λ h. h) (o 
 -- A refusal but for 18 leaves the whole state as it was, what is no part of it too.
 abbrev pub refusalKeeps : Joining → Joined → Type 0
 refusalKeeps j r = (r .refusal ≡ 0 → ⊥) → (r .refusal ≡ 18 → ⊥) → r .state ≡ j
+
+-- Where there is no payload, and so where nothing is handed out, all 256 of its bytes are zero.
+abbrev pub noPayloadIsZero : Joined → Type 0
+noPayloadIsZero r = r .message .length ≡ 0 → r .message .payload ≡ replicate mostPayload 0
 
 -- ---- what the parts of the code work on
 

@@ -7,7 +7,7 @@ ghost use Rattle.can_rules.specs.declared.Part.the-variants.{Whole, Start, Midd
 ghost use Rattle.can_rules.specs.Frames.{partIn};
 ghost use Rattle.can_rules.specs.Aliases.{listed};
 ghost use Rattle.can_rules.specs.Joining.{outcome, join as joinOf};
-ghost use Rattle.can.specs.States.{stateOf, seenIn, seenOf, partSeen, frameSeen, refusalKeeps};
+ghost use Rattle.can.specs.States.{stateOf, seenIn, seenOf, partSeen, frameSeen, refusalKeeps, noPayloadIsZero};
 use crate::Gathered;
 use crate::Joined;
 use crate::Joining;
@@ -19,6 +19,7 @@ use can_rules::Part;
 pub fn join(aliases: &[u64], nodes: &[u64], state: Joining, frame: Frame) -> Joined
     ensures { λ r. ⌜ seenIn r ≡ seenOf (joinOf (listed (now (aliases .entry)) (now (nodes .entry))) (stateOf state) frame) ⌝ }
     ensures { λ r. ⌜ refusalKeeps state r ⌝ }
+    ensures { λ r. ⌜ noPayloadIsZero r ⌝ }
 {
     if can_aliases::out_of_bounds(aliases, nodes) {
         return quiet(state, 7);
@@ -35,7 +36,7 @@ pub fn join(aliases: &[u64], nodes: &[u64], state: Joining, frame: Frame) -> Joi
 fn join_from(j: Joining, n: u64, f: Frame) -> Joined
     requires { ⌜ j .count ≤ 2 ⌝ }
     ensures { λ r. ⌜ seenIn r ≡ frameSeen j n f ⌝ }
-    ensures { λ r. ⌜ refusalKeeps j r ⌝ }
+    ensures { λ r. ⌜ refusalKeeps j r × noPayloadIsZero r ⌝ }
 {
     let part = part_in(f.header);
     match part {
@@ -69,7 +70,7 @@ fn part_in(header: u32) -> Part
 // An answer that hands out nothing.
 fn quiet(j: Joining, refusal: u8) -> Joined
     ensures { λ r. ⌜ seenIn r ≡ seenOf (outcome refusal [] (stateOf j)) ⌝ }
-    ensures { λ r. ⌜ (r .refusal ≡ refusal) × (r .state ≡ j) ⌝ }
+    ensures { λ r. ⌜ (r .refusal ≡ refusal) × (r .state ≡ j) × noPayloadIsZero r ⌝ }
 {
     let message = state::empty(0, 0);
     Joined {
@@ -89,7 +90,7 @@ fn event_in(bytes: [u8; 8]) -> u64
 // 05B4: the message at once; it drops nothing.
 fn whole(j: Joining, n: u64, f: Frame) -> Joined
     ensures { λ r. ⌜ seenIn r ≡ partSeen j n f Whole ⌝ }
-    ensures { λ r. ⌜ refusalKeeps j r ⌝ }
+    ensures { λ r. ⌜ refusalKeeps j r × noPayloadIsZero r ⌝ }
 {
     if n == 0 {
         return quiet(j, 16);
@@ -111,7 +112,7 @@ fn whole(j: Joining, n: u64, f: Frame) -> Joined
 fn start(j: Joining, n: u64, f: Frame) -> Joined
     requires { ⌜ j .count ≤ 2 ⌝ }
     ensures { λ r. ⌜ seenIn r ≡ partSeen j n f Start ⌝ }
-    ensures { λ r. ⌜ refusalKeeps j r ⌝ }
+    ensures { λ r. ⌜ refusalKeeps j r × noPayloadIsZero r ⌝ }
 {
     if n == 0 {
         return quiet(j, 16);
@@ -132,7 +133,7 @@ fn start(j: Joining, n: u64, f: Frame) -> Joined
 fn middle(j: Joining, n: u64, f: Frame) -> Joined
     requires { ⌜ j .count ≤ 2 ⌝ }
     ensures { λ r. ⌜ seenIn r ≡ partSeen j n f Middle ⌝ }
-    ensures { λ r. ⌜ refusalKeeps j r ⌝ }
+    ensures { λ r. ⌜ refusalKeeps j r × noPayloadIsZero r ⌝ }
 {
     if n == 0 {
         return quiet(j, 16);
@@ -156,7 +157,7 @@ fn middle(j: Joining, n: u64, f: Frame) -> Joined
 fn last(j: Joining, n: u64, f: Frame) -> Joined
     requires { ⌜ j .count ≤ 2 ⌝ }
     ensures { λ r. ⌜ seenIn r ≡ partSeen j n f Last ⌝ }
-    ensures { λ r. ⌜ refusalKeeps j r ⌝ }
+    ensures { λ r. ⌜ refusalKeeps j r × noPayloadIsZero r ⌝ }
 {
     if n == 0 {
         return quiet(j, 16);

@@ -4,7 +4,7 @@ ghost use mathlib.Core.Bool.{true, false, not, _&&_};
 ghost use mathlib.Core.List.{[], _∷_, _++_, map};
 ghost use Prim.Native.Nat.{_+_, _≤_, _<_};
 ghost use lib.Dec.{eqb, ltb};
-ghost use lib.ListN.{length, take};
+ghost use lib.ListN.{length, take, replicate};
 ghost use Rattle.basics.specs.Lists.{any};
 ghost use Rattle.can_rules.specs.Joining.{begun, badJoining, hasBegun, dropped as droppedOf, longer as longerOf};
 ghost use Rattle.can.specs.States.{payloadOf, begunOf, stateOf, inUse, overflowing, firstBy};
@@ -117,6 +117,7 @@ pub(crate) fn with_begun(j: Joining, n: u64, event: u64) -> Joining
 
 pub(crate) fn empty(n: u64, event: u64) -> Gathered
     ensures { λ r. ⌜ begunOf r ≡ begun n event [] ⌝ }
+    ensures { λ r. ⌜ r .payload ≡ replicate 256 0 ⌝ }
 {
     Gathered {
         sender: n,
@@ -159,6 +160,7 @@ pub(crate) fn finished(j: Joining, n: u64, bytes: [u8; 8], size: usize) -> Gathe
     requires { ⌜ hasBegun n (stateOf j) ≡ true ⌝ }
     requires { ⌜ any (overflowing n size) (stateOf j) ≡ false ⌝ }
     ensures { λ r. ⌜ begunOf r ≡ longerOf n (take size bytes) (firstBy n (stateOf j)) ⌝ }
+    ensures { λ r. ⌜ size ≤ r .length ⌝ }
 {
     if is_of(0 < j.count, j.first.sender, n) {
         let first = j.first;
@@ -172,6 +174,7 @@ pub(crate) fn finished(j: Joining, n: u64, bytes: [u8; 8], size: usize) -> Gathe
 fn longer(g: Gathered, bytes: [u8; 8], size: usize) -> Gathered
     requires { ⌜ (size ≤ 8) × (g .length + size ≤ 256) ⌝ }
     ensures { λ r. ⌜ begunOf r ≡ begun (g .sender) (g .event) (payloadOf g ++ take size bytes) ⌝ }
+    ensures { λ r. ⌜ size ≤ r .length ⌝ }
 {
     let at = g.length;
     let mut payload = g.payload;

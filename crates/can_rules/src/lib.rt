@@ -1,6 +1,6 @@
 // A frame of the CAN bus, and what it is of an event report. What is done with them is defined in specs/ and proved in proofs/.
 
-// Of the header 29 bits are used, of the bytes the first `length`.
+// A header has 29 bits; one of the 32 that are given with any of the upper three set is another one. Of the bytes the first `length` are used.
 #[repr(C)]
 pub struct Frame {
     pub header: u32,

@@ -15,7 +15,7 @@ abbrev μ-loop : tie.MeasureT-loop
 μ-loop aliases nodes met₀ i₀ met i = i
 
 loop-holds : tie.Need-loop-holds Inv-loop μ-loop
-loop-holds c = 
+loop-holds c =
     (search needs, refl, good-none (c .before .before .args .aliases .now) (c .before .before .args .nodes .now) _ _ refl (λ k. all-clear 0x1000 k) (sym (c .before .before .pre)) refl)
 
 sub-i : tie.Need-sub-i Inv-loop μ-loop
@@ -37,14 +37,14 @@ bad-pair-requires : tie.Need-bad-pair-requires Inv-loop μ-loop
 bad-pair-requires c κs = search needs
 
 returns : tie.Need-returns Inv-loop μ-loop
-returns c = 
+returns c =
     bad-one (c .before .before .before .before .before .before .before .before .args .aliases .now) (c .before .before .before .before .before .before .before .before .args .nodes .now) (c .before .before .before .before .before .loop .i) (omega (arith, c .before .before .before .before .loop-test .taken)) (omega (arith, c .before .before .before .before .before .before .before .before .pre, c .before .before .before .before .before .loop .inv .0)) (c .before .before .before .before .before .loop .inv .0) (sym (c .before .bad-pair .ensures) ∙ c .if1 .taken)
 
 array-read-old : tie.Need-array-read-old Inv-loop μ-loop
 array-read-old c = search needs
 
 returns-2 : tie.Need-returns-2 Inv-loop μ-loop
-returns-2 c = 
+returns-2 c =
     alias-twice (c .before .before .before .before .before .before .before .before .before .args .aliases .now) (c .before .before .before .before .before .before .before .before .before .args .nodes .now) (c .before .before .before .before .before .before .loop .i) (omega (arith, c .before .before .before .before .before .loop-test .taken)) (omega (arith, c .before .before .before .before .before .before .before .before .before .pre, c .before .before .before .before .before .before .loop .inv .0)) (c .before .before .before .before .before .before .loop .inv .0) (c .before .before .before .before .before .before .loop .met) (c .before .before .before .before .before .before .loop .inv .2) (sym (c .before .before .bad-pair .ensures) ∙ c .before .if1 .left) (c .if2 .taken)
 
 mul-met : tie.Need-mul-met Inv-loop μ-loop
@@ -63,7 +63,7 @@ stands-after-requires : tie.Need-stands-after-requires Inv-loop μ-loop
 stands-after-requires c κs = c .before .before .before .before .before .before .loop .inv .0
 
 returns-3 : tie.Need-returns-3 Inv-loop μ-loop
-returns-3 c = 
+returns-3 c =
     node-twice (c .before .before .before .before .before .before .before .before .before .before .before .args .aliases .now) (c .before .before .before .before .before .before .before .before .before .before .before .args .nodes .now) (c .before .before .before .before .before .before .before .before .loop .i) (omega (arith, c .before .before .before .before .before .before .before .loop-test .taken)) (omega (arith, c .before .before .before .before .before .before .before .before .before .before .before .pre, c .before .before .before .before .before .before .before .before .loop .inv .0)) (c .before .before .before .before .before .before .before .before .loop .inv .0) (leb 2 (getD (set (c .before .before .before .before .before .before .before .before .loop .met) (getD (c .before .before .before .before .before .before .before .before .before .before .before .args .aliases .now) (c .before .before .before .before .before .before .before .before .loop .i - 1) 0 % 0x1000) (getD (c .before .before .before .before .before .before .before .before .loop .met) (getD (c .before .before .before .before .before .before .before .before .before .before .before .args .aliases .now) (c .before .before .before .before .before .before .before .before .loop .i - 1) 0 % 0x1000) 0 / 2 % 2 * 2 + 1)) (getD (c .before .before .before .before .before .before .before .before .before .before .before .args .nodes .now) (c .before .before .before .before .before .before .before .before .loop .i - 1) 0 % 0x1000) 0)) (sym (c .before .stands-after .ensures) ∙ c .if3 .taken)
 
 add-met-2 : tie.Need-add-met-2 Inv-loop μ-loop
@@ -76,14 +76,15 @@ loop-less : tie.Need-loop-less Inv-loop μ-loop
 loop-less c = search needs
 
 loop-again : tie.Need-loop-again Inv-loop μ-loop
-loop-again c = 
-    (omega (arith, c .before .before .before .before .before .before .before .before .loop .inv .0),
-    simp length-set (c .before .before .before .before .before .before .before .before .loop .inv .1),
-    good-before (c .before .before .before .before .before .before .before .before .before .before .before .args .aliases .now) (c .before .before .before .before .before .before .before .before .before .before .before .args .nodes .now) (c .before .before .before .before .before .before .before .before .loop .i) (omega (arith, c .before .before .before .before .before .before .before .loop-test .taken)) (omega (arith, c .before .before .before .before .before .before .before .before .before .before .before .pre, c .before .before .before .before .before .before .before .before .loop .inv .0)) (c .before .before .before .before .before .before .before .before .loop .inv .0) _
-    (good-more (c .before .before .before .before .before .before .before .before .loop .inv .2) _ _ (sym (c .before .before .before .before .bad-pair .ensures) ∙ c .before .before .before .if1 .left) (c .before .before .if2 .left) (sym (c .before .stands-after .ensures) ∙ c .if3 .left)))
+loop-again c = (
+  omega (arith, c .before .before .before .before .before .before .before .before .loop .inv .0),
+  simp length-set (c .before .before .before .before .before .before .before .before .loop .inv .1),
+  good-before (c .before .before .before .before .before .before .before .before .before .before .before .args .aliases .now) (c .before .before .before .before .before .before .before .before .before .before .before .args .nodes .now) (c .before .before .before .before .before .before .before .before .loop .i) (omega (arith, c .before .before .before .before .before .before .before .loop-test .taken)) (omega (arith, c .before .before .before .before .before .before .before .before .before .before .before .pre, c .before .before .before .before .before .before .before .before .loop .inv .0)) (c .before .before .before .before .before .before .before .before .loop .inv .0) _
+      (good-more (c .before .before .before .before .before .before .before .before .loop .inv .2) _ _ (sym (c .before .before .before .before .bad-pair .ensures) ∙ c .before .before .before .if1 .left) (c .before .before .if2 .left) (sym (c .before .stands-after .ensures) ∙ c .if3 .left)),
+)
 
 returns-4 : tie.Need-returns-4 Inv-loop μ-loop
-returns-4 c = 
+returns-4 c =
     none-bad (c .before .before .before .before .args .aliases .now) (c .before .before .before .before .args .nodes .now) (c .before .loop .i) (c .before .loop .met) (omega (arith, c .loop-test .left)) (c .before .loop .inv .2)
 
 pub any-bad-spec : {M : Type 1} → statement M

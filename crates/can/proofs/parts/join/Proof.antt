@@ -14,7 +14,7 @@ quiet-requires c κs = search needs
 
 returns : tie.Need-returns
 returns c =
-    (c .quiet .ensures .0 ∙ bad-list _ (c .before .before .before .before .before .args .state) (c .before .before .before .before .before .args .frame) (sym (c .before .before .out-of-bounds .ensures) ∙ c .before .if1 .taken), λ _ _. c .quiet .ensures .1 .1)
+    (c .quiet .ensures .0 ∙ bad-list _ (c .before .before .before .before .before .args .state) (c .before .before .before .before .before .args .frame) (sym (c .before .before .out-of-bounds .ensures) ∙ c .before .if1 .taken), (λ _ _. c .quiet .ensures .1 .1, c .quiet .ensures .1 .2))
 
 out-of-bounds-requires-2 : tie.Need-out-of-bounds-requires-2
 out-of-bounds-requires-2 c κs = search needs
@@ -24,7 +24,7 @@ quiet-requires-2 c κs = search needs
 
 returns-2 : tie.Need-returns-2
 returns-2 c =
-    (c .quiet2 .ensures .0 ∙ bad-state _ (c .before .before .before .before .before .before .before .args .state) (c .before .before .before .before .before .before .before .args .frame) (sym (c .before .before .before .before .out-of-bounds .ensures) ∙ c .before .before .before .if1 .left) (sym (c .before .before .out-of-bounds2 .ensures) ∙ c .before .if2 .taken), λ _ _. c .quiet2 .ensures .1 .1)
+    (c .quiet2 .ensures .0 ∙ bad-state _ (c .before .before .before .before .before .before .before .args .state) (c .before .before .before .before .before .before .before .args .frame) (sym (c .before .before .before .before .out-of-bounds .ensures) ∙ c .before .before .before .if1 .left) (sym (c .before .before .out-of-bounds2 .ensures) ∙ c .before .if2 .taken), (λ _ _. c .quiet2 .ensures .1 .1, c .quiet2 .ensures .1 .2))
 
 cast-alias : tie.Need-cast-alias
 cast-alias c = search needs

@@ -56,7 +56,7 @@ returns-4 c =
 
 returns-5 : tie.Need-returns-5
 returns-5 c =
-    (c .quiet .ensures .0 ∙ other-refused (c .before .before .before .before .args .j) (c .before .before .before .before .args .n) (c .before .before .before .before .args .f) (sym (c .before .before .before .part-in .ensures) ∙ c .before .enum-told5 .given .1), λ _ _. c .quiet .ensures .1 .1)
+    (c .quiet .ensures .0 ∙ other-refused (c .before .before .before .before .args .j) (c .before .before .before .before .args .n) (c .before .before .before .before .args .f) (sym (c .before .before .before .part-in .ensures) ∙ c .before .enum-told5 .given .1), (λ _ _. c .quiet .ensures .1 .1, c .quiet .ensures .1 .2))
 
 pub join-from-spec : {M : Type 1} → statement M
 join-from-spec =

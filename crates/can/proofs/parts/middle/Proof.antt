@@ -15,14 +15,14 @@ quiet-requires c κs = search needs
 
 returns : tie.Need-returns
 returns c =
-    (c .quiet .ensures .0 ∙ sixteen (c .before .before .args .j) (c .before .before .args .n) (c .before .before .args .f) Middle (c .before .if1 .taken), λ _ _. c .quiet .ensures .1 .1)
+    (c .quiet .ensures .0 ∙ sixteen (c .before .before .args .j) (c .before .before .args .n) (c .before .before .args .f) Middle (c .before .if1 .taken), (λ _ _. c .quiet .ensures .1 .1, c .quiet .ensures .1 .2))
 
 quiet-requires-2 : tie.Need-quiet-requires-2
 quiet-requires-2 c κs = search needs
 
 returns-2 : tie.Need-returns-2
 returns-2 c =
-    (c .quiet2 .ensures .0 ∙ nineteen (c .before .before .before .before .args .j) (c .before .before .before .before .args .n) (c .before .before .before .before .args .f) Middle (c .before .before .before .if1 .left) (ap not (ne-eqb (c .before .before .before .before .args .f .length) 8 (c .before .if2 .taken))), λ _ _. c .quiet2 .ensures .1 .1)
+    (c .quiet2 .ensures .0 ∙ nineteen (c .before .before .before .before .args .j) (c .before .before .before .before .args .n) (c .before .before .before .before .args .f) Middle (c .before .before .before .if1 .left) (ap not (ne-eqb (c .before .before .before .before .args .f .length) 8 (c .before .if2 .taken))), (λ _ _. c .quiet2 .ensures .1 .1, c .quiet2 .ensures .1 .2))
 
 has-begun-requires : tie.Need-has-begun-requires
 has-begun-requires c κs = search needs
@@ -34,7 +34,7 @@ returns-3 : tie.Need-returns-3
 returns-3 c = (
   c .quiet3 .ensures .0
       ∙ seventeen (c .before .before .before .before .before .before .args .j) (c .before .before .before .before .before .before .args .n) (c .before .before .before .before .before .before .args .f) Middle (c .before .before .before .before .before .if1 .left) (ap not (eq-eqb (c .before .before .before .before .before .before .args .f .length) 8 (c .before .before .before .if2 .left))) refl (refuted _ _ (c .before .if3 .taken) (c .before .before .has-begun .ensures)),
-  λ _ _. c .quiet3 .ensures .1 .1,
+  (λ _ _. c .quiet3 .ensures .1 .1, c .quiet3 .ensures .1 .2),
 )
 
 overflows-requires : tie.Need-overflows-requires
@@ -50,7 +50,7 @@ returns-4 : tie.Need-returns-4
 returns-4 c = (
   c .quiet4 .ensures .0
       ∙ middle-dropped (c .before .before .before .before .before .before .before .before .before .args .j) (c .before .before .before .before .before .before .before .before .before .args .n) (c .before .before .before .before .before .before .before .before .before .args .f) (c .before .before .before .before .before .before .before .before .if1 .left) (search (needs, c .before .before .before .before .before .before .before .before .before .good .1)) (c .before .before .before .before .before .before .if2 .left) (c .before .dropped .result) (passed _ _ (c .before .before .before .before .if3 .left) (c .before .before .before .before .before .has-begun .ensures)) (sym (c .before .before .before .overflows .ensures) ∙ c .before .before .if4 .taken) (c .before .dropped .ensures),
-  λ _ e. absurd (e (c .quiet4 .ensures .1 .0)),
+  (λ _ e. absurd (e (c .quiet4 .ensures .1 .0)), c .quiet4 .ensures .1 .2),
 )
 
 grown-requires : tie.Need-grown-requires
@@ -63,7 +63,7 @@ returns-5 : tie.Need-returns-5
 returns-5 c = (
   c .quiet5 .ensures .0
       ∙ middle-done (c .before .before .before .before .before .before .before .before .before .before .args .j) (c .before .before .before .before .before .before .before .before .before .before .args .n) (c .before .before .before .before .before .before .before .before .before .before .args .f) (c .before .before .before .before .before .before .before .before .before .if1 .left) (search (needs, c .before .before .before .before .before .before .before .before .before .before .good .1)) (c .before .before .before .before .before .before .before .if2 .left) (c .before .grown .result) (passed _ _ (c .before .before .before .before .before .if3 .left) (c .before .before .before .before .before .before .has-begun .ensures)) (sym (c .before .before .before .before .overflows .ensures) ∙ c .before .before .before .if4 .left) (c .before .grown .ensures),
-  λ z _. absurd (z (c .quiet5 .ensures .1 .0)),
+  (λ z _. absurd (z (c .quiet5 .ensures .1 .0)), c .quiet5 .ensures .1 .2),
 )
 
 pub middle-spec : {M : Type 1} → statement M

@@ -10,7 +10,7 @@ empty-requires c κs = search needs
 
 returns : tie.Need-returns
 returns c =
-    (ap (λ (b : Begun). record { refusal = c .before .args .refusal; handed = report 0 (b .sender) (b .event) (b .soFar); next = stateOf (c .before .args .j) }) (c .empty .ensures), (refl, refl))
+    (ap (λ (b : Begun). record { refusal = c .before .args .refusal; handed = report 0 (b .sender) (b .event) (b .soFar); next = stateOf (c .before .args .j) }) (c .empty .ensures .0), (refl, refl, λ _. c .empty .ensures .1))
 
 pub quiet-spec : {M : Type 1} → statement M
 quiet-spec = tie.close (tie.spec empty-requires returns)

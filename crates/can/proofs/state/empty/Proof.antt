@@ -5,7 +5,7 @@ use Rattle.can.proofs.state.empty.Tie as tie
 
 returns : tie.Need-returns
 unfolding each
-returns c = refl
+returns c = (refl, refl)
 
 pub empty-spec : {M : Type 1} → statement M
 empty-spec = tie.close (tie.spec returns)

@@ -15,7 +15,7 @@ longer-requires c κs =
 
 returns : tie.Need-returns
 returns c =
-    c .longer .ensures ∙ sym (own-first (c .before .before .before .before .before .args .n) (c .before .before .before .before .before .args .j) (c .before .before .before .before .before .pre .0 .0) (take (c .before .before .before .before .before .args .size) (c .before .before .before .before .before .args .bytes)) (sym (c .before .before .before .is-of .ensures) ∙ c .before .before .if1 .taken))
+    (c .longer .ensures .0 ∙ sym (own-first (c .before .before .before .before .before .args .n) (c .before .before .before .before .before .args .j) (c .before .before .before .before .before .pre .0 .0) (take (c .before .before .before .before .before .args .size) (c .before .before .before .before .before .args .bytes)) (sym (c .before .before .before .is-of .ensures) ∙ c .before .before .if1 .taken)), c .longer .ensures .1)
 
 longer-requires-2 : tie.Need-longer-requires-2
 longer-requires-2 c κs =
@@ -23,7 +23,7 @@ longer-requires-2 c κs =
 
 returns-2 : tie.Need-returns-2
 returns-2 c =
-    c .longer2 .ensures ∙ sym (own-second (c .before .before .before .before .before .args .n) (c .before .before .before .before .before .args .j) (c .before .before .before .before .before .pre .0 .0) (take (c .before .before .before .before .before .args .size) (c .before .before .before .before .before .args .bytes)) (sym (c .before .before .before .is-of .ensures) ∙ c .before .before .if1 .left) (second-own (c .before .before .before .before .before .args .n) (c .before .before .before .before .before .args .j) (c .before .before .before .before .before .pre .0 .0) (c .before .before .before .before .before .pre .1 .0) (sym (c .before .before .before .is-of .ensures) ∙ c .before .before .if1 .left)))
+    (c .longer2 .ensures .0 ∙ sym (own-second (c .before .before .before .before .before .args .n) (c .before .before .before .before .before .args .j) (c .before .before .before .before .before .pre .0 .0) (take (c .before .before .before .before .before .args .size) (c .before .before .before .before .before .args .bytes)) (sym (c .before .before .before .is-of .ensures) ∙ c .before .before .if1 .left) (second-own (c .before .before .before .before .before .args .n) (c .before .before .before .before .before .args .j) (c .before .before .before .before .before .pre .0 .0) (c .before .before .before .before .before .pre .1 .0) (sym (c .before .before .before .is-of .ensures) ∙ c .before .before .if1 .left))), c .longer2 .ensures .1)
 
 pub finished-spec : {M : Type 1} → statement M
 finished-spec =

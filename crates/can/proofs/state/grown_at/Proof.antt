@@ -14,7 +14,7 @@ longer-requires c κs =
 
 returns : tie.Need-returns
 returns c =
-    grown-place (c .before .before .before .args .used) (c .before .before .before .args .n) (take (c .before .before .before .args .size) (c .before .before .before .args .bytes)) (c .before .before .before .args .g) (c .longer .result) (sym (c .before .before .is-of .ensures) ∙ c .before .if1 .taken) (c .longer .ensures)
+    grown-place (c .before .before .before .args .used) (c .before .before .before .args .n) (take (c .before .before .before .args .size) (c .before .before .before .args .bytes)) (c .before .before .before .args .g) (c .longer .result) (sym (c .before .before .is-of .ensures) ∙ c .before .if1 .taken) (c .longer .ensures .0)
 
 returns-2 : tie.Need-returns-2
 returns-2 c =

@@ -49,11 +49,13 @@ add-t15 c = search needs
 
 returns : tie.Need-returns Inv-loop μ-loop
 returns c =
-    let done : c .before .loop .i ≡ c .before .before .before .args .size = omega arith in
-    ap (begun (c .before .before .before .args .g .sender) (c .before .before .before .args .g .event))
-    (ap (λ (n : ℕ). each (c .before .before .before .args .g .length + n) (λ k. getD (c .before .loop .payload) k 0)) (sym done)
-    ∙ c .before .loop .inv .1
-    ∙ ap (λ (n : ℕ). payloadOf (c .before .before .before .args .g) ++ take n (c .before .before .before .args .t2)) done)
+    let done : c .before .loop .i ≡ c .before .before .before .args .size = omega arith in (
+      ap (begun (c .before .before .before .args .g .sender) (c .before .before .before .args .g .event))
+          (ap (λ (n : ℕ). each (c .before .before .before .args .g .length + n) (λ k. getD (c .before .loop .payload) k 0)) (sym done)
+          ∙ c .before .loop .inv .1
+          ∙ ap (λ (n : ℕ). payloadOf (c .before .before .before .args .g) ++ take n (c .before .before .before .args .t2)) done),
+      omega arith,
+    )
 
 pub longer-spec : {M : Type 1} → statement M
 longer-spec =
