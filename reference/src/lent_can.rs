@@ -42,7 +42,7 @@ impl Frame {
     }
 }
 
-/// The bytes of the payload past the length are no part of it.
+/// The bytes of the payload past the length are no part of it; in an answer without payload they are 0.
 #[repr(C)]
 #[derive(Clone, Copy, PartialEq, Eq)]
 pub struct Gathered {

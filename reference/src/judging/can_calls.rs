@@ -103,6 +103,8 @@ struct JoinAnswer {
     refusal: u8,
     mti: u16,
     message: Shown,
+    /// Where there is no payload all of its bytes are 0.
+    clean: bool,
     after: After,
     lists_unchanged: bool,
 }
@@ -129,6 +131,7 @@ impl JoinAnswer {
             refusal: joined.refusal,
             mti,
             message,
+            clean: true,
             after,
             lists_unchanged: true,
         }
@@ -153,6 +156,7 @@ impl JoinAnswer {
             refusal: *refusal,
             mti: *mti,
             message: Shown::of(message),
+            clean: message.length != 0 || message.payload == Gathered::NONE.payload,
             after,
             lists_unchanged,
         }

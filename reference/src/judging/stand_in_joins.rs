@@ -37,14 +37,14 @@ impl AskedToJoin<'_> {
         let mut answer = Joined {
             refusal: joined.refusal,
             mti: 0,
-            message: Gathered {
-                payload: [NOTHING; PAYLOAD],
-                ..Gathered::NONE
-            },
+            message: Gathered::NONE,
             state: *self.state,
         };
         if let Some((mti, report)) = &joined.report {
             answer.mti = *mti;
+            if !report.payload.is_empty() {
+                answer.message.payload = [NOTHING; PAYLOAD];
+            }
             answer.message.set(report);
         }
         if matches!(joined.refusal, refusal::NONE | refusal::PAYLOAD) {
@@ -476,6 +476,13 @@ fn state_is_taken<const WAY: usize>(asked: &AskedToJoin, joined: &mut Joined) {
     }
 }
 
+/// Bytes of the given state stand beside a silent answer.
+fn bytes_beside_silence(asked: &AskedToJoin, joined: &mut Joined) {
+    if joined.mti == 0 {
+        joined.message.payload = asked.state.first.payload;
+    }
+}
+
 /// Slips that show in the text of a file too.
 const SLIPS: [Slip; 40] = [
     bytes_go_to_the_other_sender,
@@ -520,7 +527,8 @@ const SLIPS: [Slip; 40] = [
     list_is_taken::<4>,
 ];
 /// Slips that show in calls only.
-const SLIPS_OF_CALLS: [Slip; 10] = [
+const SLIPS_OF_CALLS: [Slip; 11] = [
+    bytes_beside_silence,
     a_start_stands_where_the_old_one_stood,
     a_refusal_clears_what_is_no_part_of_the_state,
     a_sender_beside_a_refusal,
