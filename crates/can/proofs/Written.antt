@@ -5,12 +5,12 @@ use mathlib.Core.List.{List, [], _∷_, _++_, append-assoc, append-nil}
 use native.Mathlib.Nat.{add-zero, add-suc, mul-one, mul-assoc, pow-zero, pow-suc}
 use native.Mathlib.Numerals.{add-one}
 use native.Mathlib.Omega.{arith}
-use lib.ListN.{length, take, drop, replicate, length-append, replicate-append-replicate}
+use lib.ListN.{length, take, drop, drop-of-length-le, replicate, length-append, replicate-append-replicate}
 use lib.Pow.{pow-add, shl-exact}
 use lib.Seq.{length-take-le, take-at, drop-at, drop-drop}
 use Rattle.numbers.specs.Numbers.{numberIn, bytesOf, Bytes, pasted, numberPut}
 use Rattle.numbers.proofs.Laws.{number-below, bytes-length, bytes-of-number, put-where-room}
-use Rattle.numbers.proofs.Pasting.{pasted-next, pasted-length}
+use Rattle.numbers.proofs.Pasting.{pasted-next, pasted-length, pasted-first}
 use Rattle.can_rules.specs.declared.Part.{Part}
 use Rattle.can_rules.specs.Frames.{headerOf, frame, frameBytes}
 
@@ -68,7 +68,7 @@ spelledOut header size number = bytesOf 4 header ++ ((size ∷ []) ++ bytesOf 8 
 pub spelled-length : (header size number : ℕ) → length (spelledOut header size number) ≡ 13
 spelled-length header size number = length-append (bytesOf 4 header) ((size ∷ []) ++ bytesOf 8 number) ∙ omega (arith, bytes-length 4 header, bytes-length 8 number)
 
-pub frame-put : (header size number at : ℕ) (out first whole : List ℕ) → at + 13 ≤ length out → size < 256
+frame-put : (header size number at : ℕ) (out first whole : List ℕ) → at + 13 ≤ length out → size < 256
     → first ≡ numberPut (header * 0x100000000 + size * 0x1000000) 8 at out → whole ≡ numberPut number 8 (at + 5) first
     → whole ≡ pasted at (spelledOut header size number) out
 frame-put header size number at out first whole room few e₁ e₂ =
@@ -88,6 +88,16 @@ frame-put header size number at out first whole room few e₁ e₂ =
     ∙ covered (at + 5) (0 ∷ 0 ∷ 0 ∷ []) c (pasted at five out) (omega arith) (omega arith)
     ∙ next at 5 (at + 5) five c out l₅ refl (omega arith)
     ∙ ap (λ (l : List ℕ). pasted at l out) (append-assoc (bytesOf 4 header) (size ∷ []) c)
+
+-- 13 bytes are the frame and nothing else.
+pub frame-filled : (header size number : ℕ) (out first whole : List ℕ) → length out ≡ 13 → size < 256
+    → first ≡ numberPut (header * 0x100000000 + size * 0x1000000) 8 0 out → whole ≡ numberPut number 8 5 first → whole ≡ spelledOut header size number
+frame-filled header size number out first whole room few e₁ e₂ =
+    let bytes = spelledOut header size number in
+    frame-put header size number 0 out first whole (omega arith) few e₁ e₂
+    ∙ pasted-first bytes out
+    ∙ ap (λ (l : List ℕ). bytes ++ l) (drop-of-length-le out {i = length bytes} (omega (arith, spelled-length header size number)))
+    ∙ append-nil bytes
 
 -- ---- which frame it is
 

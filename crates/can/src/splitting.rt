@@ -127,12 +127,20 @@ fn put_pieces(alias: u64, payload: &[u8], out: &mut [u8])
     );
 }
 
-// Writes a frame with the number's eight bytes. Header and length go as one number, whose last three bytes the frame's own cover: two stores and no loop.
+// Writes a frame from a place on. It is lent as 13 bytes of their own, so that no store asks for room again.
 fn put_frame(header: u64, size: u8, number: u64, at: usize, out: &mut [u8])
     requires { ⌜ (at + 13 ≤ length (now out)) × (header < 0x1_0000_0000) ⌝ }
     ensures { λ _. ⌜ now (out .exit) ≡ pasted at (bytesOf 4 header ++ ((size ∷ []) ++ bytesOf 8 number)) (now (out .entry)) ⌝ }
 {
+    fill_frame(header, size, number, &mut out[at..at + 13]);
+}
+
+// Fills 13 bytes with a frame with the number's eight bytes. Header and length go as one number, whose last three bytes the frame's own cover: two stores and no loop.
+fn fill_frame(header: u64, size: u8, number: u64, out: &mut [u8])
+    requires { ⌜ (length (now out) ≡ 13) × (header < 0x1_0000_0000) ⌝ }
+    ensures { λ _. ⌜ now (out .exit) ≡ bytesOf 4 header ++ ((size ∷ []) ++ bytesOf 8 number) ⌝ }
+{
     let front = header * 0x1_0000_0000 + (size as u64) * 0x0100_0000;
-    numbers::write_at(front, 8, at, out);
-    numbers::write_at(number, 8, at + 5, out);
+    numbers::write_at(front, 8, 0, out);
+    numbers::write_at(number, 8, 5, out);
 }

@@ -18,31 +18,31 @@ use Rattle.can_rules.specs.Runs.{answer, answersTo}
 
 -- ---- three nodes and their frames
 
-abbrev first : ℕ
+abbrev pub first : ℕ
 first = 0x0A0000000001
 
-abbrev second : ℕ
+abbrev pub second : ℕ
 second = 0x0A0000000002
 
-abbrev third : ℕ
+abbrev pub third : ℕ
 third = 0x0A0000000003
 
-abbrev nodes : Aliases
+abbrev pub nodes : Aliases
 nodes = listed (0x123 ∷ 0x456 ∷ 0xFFF ∷ []) (first ∷ second ∷ third ∷ [])
 
 -- 1 to n.
-abbrev upTo : ℕ → List ℕ
+abbrev pub upTo : ℕ → List ℕ
 upTo zero = []
 upTo (suc n) = upTo n ++ (suc n ∷ [])
 
-abbrev event : ℕ
+abbrev pub event : ℕ
 event = 0x0102030405060708
 
 -- The frames of a report with n bytes from a node.
 abbrev sentBy : ℕ → ℕ → List Frame
 sentBy node n = splitOf nodes (report 0x0F14 node event (upTo n) .message) (upTo n)
 
-abbrev raw : ℕ → ℕ → List ℕ → Frame
+abbrev pub raw : ℕ → ℕ → List ℕ → Frame
 raw header n bytes = record { header = header; length = n; bytes = bytes }
 
 abbrev all : Frame → Bool

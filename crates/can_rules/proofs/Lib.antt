@@ -1,4 +1,5 @@
 pub mod Examples
+pub mod Limits
 pub mod Lists
 pub mod Aliases
 pub mod Headers

@@ -5,7 +5,7 @@ use mathlib.Core.Logic.{_⊎_, inl, inr}
 use mathlib.Core.Bool.{Bool, true, false, _||_, true≢false, or-false}
 use mathlib.Core.List.{List, [], _∷_}
 use native.Mathlib.Omega.{arith}
-use borrow.Author.Tests.{eqb-true, ltb-false, not-false}
+use borrow.Author.Tests.{eqb-true, ltb-false, le-ltb, not-false}
 use lib.Dec.{eqb, ltb}
 use lib.ListN.{length}
 use Rattle.basics.specs.Refusals.{firstOf}
@@ -16,13 +16,13 @@ use Rattle.message.specs.declared.Field.{Field}
 use Rattle.message.specs.declared.Field.the-variants.{Present, Absent}
 use Rattle.message.specs.declared.Message.{Message}
 use Rattle.message.specs.Mti.{addressed, carriesEvent, isReport, kindOf, meaningOf, mtisOf}
-use Rattle.message.specs.Messages.{badNode, badNodes, misplaced, badContent}
+use Rattle.message.specs.Messages.{badNode, badNodes, misplaced, badContent, otherSource}
 use Rattle.message.proofs.KindsOfMti.{kind-exactly}
 use Rattle.message.proofs.Writings.{content-placed}
-use Rattle.can_rules.specs.Aliases.{Aliases, aliasFor}
+use Rattle.can_rules.specs.Aliases.{Aliases, badAliases, placeIn, nobody, noAlias, aliasFor}
 use Rattle.can_rules.specs.Joining.{Handed, report}
 use Rattle.can_rules.specs.Splitting.{reportTests}
-use Rattle.can_rules.proofs.Aliases.{known-back}
+use Rattle.can_rules.proofs.Aliases.{stands, none-at, place-there, place-within, good-list, alias-listed, known-back}
 use Rattle.can_rules.proofs.Made.{Stands}
 
 abbrev pub handing : Message → List ℕ → Handed
@@ -114,3 +114,21 @@ splittable l m payload e =
       stands = record { good-list = first-passed seven; fits = back .1; for = back .0; somebody = neither (eqb (m .source) 0) _ node .0 };
       one-of-two = reporting m payload (first-passed four) (report-mti (m .mti) (not-false (isReport (kindOf (m .mti))) (first-passed twenty-nine)));
     }
+
+-- ---- and back: every such report from a listed node is split
+
+-- A Node ID of a good list is a good Node ID.
+pub listed-good : (l : Aliases) (n : ℕ) → badAliases l ≡ false → eqb (aliasFor l n) noAlias ≡ false → badNode n ≡ false
+listed-good l n h there =
+    let g = good-list l h in
+    let in-list : stands n (l .nodes) ≡ true = not-false _ (sym (alias-listed l n h) ∙ there) in
+    subst (λ (x : ℕ). badNode x ≡ false) (place-there (l .nodes) n nobody in-list)
+    (none-at badNode (l .nodes) (placeIn (l .nodes) n) nobody (g .nodes-ok) (place-within (l .nodes) n in-list))
+
+-- With `splittable` the two directions of one fact: the other tests pass exactly for an event report from a node of a good list.
+pub reports-split : (l : Aliases) (n : ℕ) (h : Handed) → badAliases l ≡ false → eqb (aliasFor l n) noAlias ≡ false → Reporting n h
+    → firstOf (reportTests l (h .message) (h .payload)) ≡ 0
+unfolding badNodes badContent otherSource meaningOf
+reports-split l n h good there (bare event) = rw (good, listed-good l n good there, there)
+reports-split l n h good there (laden event payload some few) =
+    rw (good, listed-good l n good there, le-ltb (length payload) 1 some, le-ltb 256 (length payload) few, there)

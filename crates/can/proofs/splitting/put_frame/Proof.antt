@@ -1,44 +1,45 @@
-use mathlib.Core.Path.{_∙_}
-use native.Mathlib.Omega.{arith}
+use Prim.Native.Nat.{_+_, _-_}
+use mathlib.Core.Path.{ap, _∙_}
+use mathlib.Core.List.{List, _++_}
+use Prim.Native.Nat.{ℕ}
+use lib.ListN.{take, drop}
+use Rattle.numbers.proofs.Pasting.{part-back}
+use Rattle.can.proofs.Written.{spelledOut, spelled-length}
 use borrow.Author.Needs.{needs}
-use Rattle.can.proofs.Written.{frame-put}
 use Rattle.can.proofs.splitting.put_frame.Statement.{statement}
 use Rattle.can.proofs.splitting.put_frame.Tie as tie
 
-mul-front : tie.Need-mul-front
-mul-front c = search needs
+add-fill-frame : tie.Need-add-fill-frame
+add-fill-frame c = search needs
 
-mul-front-2 : tie.Need-mul-front-2
-mul-front-2 c = search needs
+sub-fill-frame : tie.Need-sub-fill-frame
+sub-fill-frame c = search needs
 
-add-front : tie.Need-add-front
-add-front c = search needs
+part-fill-frame-start : tie.Need-part-fill-frame-start
+part-fill-frame-start c = search needs
 
-write-at-requires : tie.Need-write-at-requires
-write-at-requires c κs = search needs
+part-fill-frame-end : tie.Need-part-fill-frame-end
+part-fill-frame-end c = search needs
 
-add-write-at : tie.Need-add-write-at
-add-write-at c = search needs
-
-write-at-requires-2 : tie.Need-write-at-requires-2
-write-at-requires-2 c κs = search needs
+fill-frame-requires : tie.Need-fill-frame-requires
+fill-frame-requires c κs = search needs
 
 same-length : tie.Need-same-length
-same-length c = c .before .before .write-at2 .kept .1 .1 .1 .0 ∙ c .before .before .before .before .before .before .write-at .kept .1 .1 .1 .0
+same-length c = search needs
 
 returns : tie.Need-returns
 returns c =
-    frame-put (c .before .before .before .before .before .before .before .before .before .args .header) (c .before .before .before .before .before .before .before .before .before .args .size) (c .before .before .before .before .before .before .before .before .before .args .number) (c .before .before .before .before .before .before .before .before .before .args .at) (c .before .before .before .before .before .before .before .before .before .args .out .now) _ _ (c .before .before .before .before .before .before .before .before .before .pre .0) (search needs) (c .before .before .before .before .before .before .write-at .ensures) (c .before .before .write-at2 .ensures)
+    ap (λ (ys : List ℕ). take (c .before .before .before .before .before .args .at) (c .before .before .before .before .before .args .out .now) ++ (ys ++ drop (c .before .before .before .before .before .args .at + 13 - c .before .before .before .before .before .args .at) (drop (c .before .before .before .before .before .args .at) (c .before .before .before .before .before .args .out .now)))) (c .before .before .fill-frame .ensures)
+    ∙ part-back (c .before .before .before .before .before .args .at) 13 (c .before .before .before .before .before .args .out .now) (spelledOut (c .before .before .before .before .before .args .header) (c .before .before .before .before .before .args .size) (c .before .before .before .before .before .args .number)) (spelled-length (c .before .before .before .before .before .args .header) (c .before .before .before .before .before .args .size) (c .before .before .before .before .before .args .number))
 
 pub put-frame-spec : {M : Type 1} → statement M
 put-frame-spec =
     tie.close
     (tie.spec
-    mul-front
-    mul-front-2
-    add-front
-    write-at-requires
-    add-write-at
-    write-at-requires-2
+    add-fill-frame
+    sub-fill-frame
+    part-fill-frame-start
+    part-fill-frame-end
+    fill-frame-requires
     same-length
     returns)
