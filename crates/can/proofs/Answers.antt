@@ -150,13 +150,13 @@ first-finished n bytes (b ∷ s) e = go (ofSender n b) refl e (first-finished n 
 -- ---- accepted, part by part
 
 module _ (j : Joining) (n : ℕ) (f : Frame) (named : n ≡ 0 → ⊥) (eight : length (f .bytes) ≡ 8) where
-  pub all-bytes : f .length ≡ 8 → bytesIn f ≡ f .bytes
-  all-bytes e = ap (λ (k : ℕ). take k (f .bytes)) e ∙ take-all 8 (f .bytes) (omega (arith, eight))
+  pub eight-used : f .length ≡ 8 → bytesIn f ≡ f .bytes
+  eight-used e = ap (λ (k : ℕ). take k (f .bytes)) e ∙ take-all 8 (f .bytes) (omega (arith, eight))
 
   pub whole-done : f .length ≡ 8 → (g : Gathered) (e : ℕ) → begunOf g ≡ begun n e [] → e ≡ numberIn (f .bytes)
       → record { refusal = 0; handed = handedIn 0x05B4 g; next = stateOf j } ≡ partSeen j n f Whole
   whole-done l g e b v =
-      (λ i. record { refusal = 0; handed = (handed-as 0x05B4 g (begun n e []) b ∙ ap (λ (x : ℕ). report 0x05B4 n x []) (v ∙ sym (ap numberIn (all-bytes l)))) i; next = stateOf j })
+      (λ i. record { refusal = 0; handed = (handed-as 0x05B4 g (begun n e []) b ∙ ap (λ (x : ℕ). report 0x05B4 n x []) (v ∙ sym (ap numberIn (eight-used l)))) i; next = stateOf j })
       ∙ accepted j n f Whole named (rw l) refl refl refl
 
   pub start-done : f .length ≡ 8 → (k next : Joining) (e : ℕ) → j .count ≤ 2 → stateOf k ≡ dropped n (stateOf j) → k .count < 2
@@ -164,11 +164,11 @@ module _ (j : Joining) (n : ℕ) (f : Frame) (named : n ≡ 0 → ⊥) (eight : 
       → seenOf (outcome 0 [] (stateOf next)) ≡ partSeen j n f Start
   start-done l k next e h d few b v =
       ap (λ (s : List Begun). seenOf (outcome 0 [] s))
-      (b ∙ ap₂ (λ (s : List Begun) (x : ℕ). s ++ (begun n x [] ∷ [])) d (v ∙ sym (ap numberIn (all-bytes l))))
+      (b ∙ ap₂ (λ (s : List Begun) (x : ℕ). s ++ (begun n x [] ∷ [])) d (v ∙ sym (ap numberIn (eight-used l))))
       ∙ accepted j n f Start named (rw l) refl (not-third n j k h d few) refl
 
   middle-size : f .length ≡ 8 → length (bytesIn f) ≡ 8
-  middle-size l = ap length (all-bytes l) ∙ eight
+  middle-size l = ap length (eight-used l) ∙ eight
 
   pub middle-dropped : f .length ≡ 8 → (left : Joining) → hasBegun n (stateOf j) ≡ true → any (overflowing n 8) (stateOf j) ≡ true
       → stateOf left ≡ dropped n (stateOf j) → seenOf (outcome 18 [] (stateOf left)) ≡ partSeen j n f Middle

@@ -3,16 +3,16 @@ use Prim.Native.Nat.{ℕ, zero, suc, _+_, _-_, _≤_, _<_}
 use mathlib.Core.Path.{_≡_, refl, sym, ap, ap₂, _∙_}
 use mathlib.Core.Bool.{Bool, true, false, cond, not, _&&_, _||_, false≢true}
 use mathlib.Core.List.{List, [], _∷_, _++_, map, append-assoc, append-nil}
-use native.Mathlib.Nat.{le-refl, le-trans, le-suc, add-zero}
+use native.Mathlib.Nat.{le-trans, le-suc, add-zero}
+use native.Mathlib.Numerals.{add-one}
 use native.Mathlib.Omega.{arith}
 use borrow.Author.Tests.{ltb-true, ltb-false, lt-ltb, le-ltb, eq-eqb}
 use lib.Dec.{eqb, leb, ltb}
-use lib.ListN.{length, getD, set, take}
-use lib.Seq.{getD-set-same, getD-set-other, take-suc}
+use lib.ListN.{length, getD, set, take, length-set}
+use lib.Seq.{getD-set-same, take-suc}
 use Rattle.basics.specs.Lists.{any, each}
 use Rattle.basics.specs.Lists.{firstOr, without}
 use Rattle.basics.proofs.Bools.{same-truth, both, neither}
-use Rattle.basics.proofs.Each.{each-same}
 use Rattle.basics.proofs.Lists.{any-append, without-append}
 use Rattle.can_rules.specs.Joining.{Begun, begun, tooLong, hasBegun, ofSender, by, longer}
 use Rattle.can.specs.declared.Gathered.{Gathered}
@@ -40,26 +40,35 @@ not-over false t v e = refl
 
 -- ---- byte by byte
 
-each-untouched : (xs : List ℕ) (k at v : ℕ) → k ≤ at → each k (λ i. getD (set xs at v) i 0) ≡ each k (λ i. getD xs i 0)
-each-untouched xs k at v h = each-same k _ _ (λ i l. getD-set-other xs at i v 0 (λ e. omega arith))
-
--- i bytes are there, and the next one is put after them.
-pub one-more : (xs bytes soFar : List ℕ) (at i : ℕ) → at + i < length xs → i < length bytes
-    → each (at + i) (λ k. getD xs k 0) ≡ soFar ++ take i bytes
-    → each (at + (i + 1)) (λ k. getD (set xs (at + i) (getD bytes i 0)) k 0) ≡ soFar ++ take (i + 1) bytes
+-- The first n places of a payload that has as many are its first n bytes.
+pub first-bytes : (xs : List ℕ) (n : ℕ) → n ≤ length xs → each n (λ i. getD xs i 0) ≡ take n xs
 unfolding each
-one-more xs bytes soFar at i room there h =
-    let v = getD bytes i 0 in
-    let up : at + (i + 1) ≡ suc (at + i) = omega arith in
-    let next : i + 1 ≡ suc i = omega arith in
-    ap (λ (n : ℕ). each n (λ k. getD (set xs (at + i) v) k 0)) up
-    ∙ ap₂ (λ (front : List ℕ) (x : ℕ). front ++ (x ∷ [])) (each-untouched xs (at + i) (at + i) v (le-refl (at + i)) ∙ h) (getD-set-same xs (at + i) v 0 room)
-    ∙ append-assoc soFar (take i bytes) (v ∷ [])
-    ∙ ap (λ (r : List ℕ). soFar ++ r) (sym (take-suc bytes i 0 there))
-    ∙ ap (λ (n : ℕ). soFar ++ take n bytes) (sym next)
+first-bytes xs zero h = refl
+first-bytes xs (suc n) h = ap (λ (front : List ℕ). front ++ (getD xs n 0 ∷ [])) (first-bytes xs n (le-trans (le-suc n) h)) ∙ sym (take-suc xs n 0 h)
 
-pub none-yet : (xs bytes : List ℕ) (at : ℕ) → each (at + 0) (λ k. getD xs k 0) ≡ each at (λ k. getD xs k 0) ++ take 0 bytes
-none-yet xs bytes at = ap (λ (n : ℕ). each n (λ k. getD xs k 0)) (add-zero at) ∙ sym (append-nil (each at (λ k. getD xs k 0)))
+-- One byte more of a list, and the bytes before a place that is written.
+with-next : (xs : List ℕ) (n : ℕ) → n < length xs → take (n + 1) xs ≡ take n xs ++ (getD xs n 0 ∷ [])
+with-next xs n h = ap (λ (k : ℕ). take k xs) (add-one n) ∙ take-suc xs n 0 h
+
+before-written : (xs : List ℕ) (n v : ℕ) → take n (set xs n v) ≡ take n xs
+before-written [] n v = refl
+before-written (x ∷ xs) zero v = refl
+before-written (x ∷ xs) (suc n) v = ap (λ (r : List ℕ). x ∷ r) (before-written xs n v)
+
+module _ (xs bytes front : List ℕ) (at i : ℕ) where
+  pub none-written : take (at + 0) xs ≡ take at xs ++ take 0 bytes
+  none-written = rw (add-zero at) (sym (append-nil (take at xs)))
+
+  pub next-written : at + i < length xs → i < length bytes → take (at + i) xs ≡ front ++ take i bytes
+      → take (at + (i + 1)) (set xs (at + i) (getD bytes i 0)) ≡ front ++ take (i + 1) bytes
+  next-written room there h =
+      let v = getD bytes i 0 in
+      let ys = set xs (at + i) v in
+      let there₂ : at + i < length ys = omega (arith, length-set xs (at + i) v) in
+      let same : take (at + i) ys ++ (getD ys (at + i) 0 ∷ []) ≡ (front ++ take i bytes) ++ (v ∷ []) =
+      ap₂ (λ (l : List ℕ) (x : ℕ). l ++ (x ∷ [])) (before-written xs (at + i) v ∙ h) (getD-set-same xs (at + i) v 0 room) in
+      let place : at + (i + 1) ≡ at + i + 1 = omega arith in
+      rw (place, with-next ys (at + i) there₂, with-next bytes i there) (same ∙ append-assoc front (take i bytes) (v ∷ []))
 
 -- ---- place by place
 
