@@ -63,7 +63,7 @@ module _ (alias from at : ℕ) (payload out goal : List ℕ) (bytes : Bytes payl
   size = length-drop from payload
 
   module _ (more : 8 < length payload - from) where
-    -- A middle frame is written: what is still to do comes to the same.
+    -- Once a middle frame stands there, the rest behind it makes up the same whole.
     pub middle-written : (after : List ℕ) (number : ℕ) → number ≡ numberAt payload from 8 → after ≡ pasted at (spelledOut (headerOf Middle alias) 8 number) out
         → pasted (at + 13) (toDo alias (drop (from + 8) payload)) after ≡ goal
     middle-written after number e w =
@@ -80,7 +80,7 @@ module _ (alias from at : ℕ) (payload out goal : List ℕ) (bytes : Bytes payl
         ∙ ap (λ (l : List ℕ). pasted at l out) (sym (middle-first alias (drop from payload) (omega (arith, size))))
         ∙ so
 
-  -- The last frame is written, and nothing is left to do.
+  -- With the last frame the whole is there.
   pub last-written : (left number moved : ℕ) (after : List ℕ) → left ≡ length payload - from → left ≤ 8 → number ≡ numberAt payload from (atMostEight left)
       → after ≡ pasted at (spelledOut (headerOf Last alias) left moved) out → moved ≡ number * 2 ^ (64 - 8 * left) % 2 ^ 64 → after ≡ goal
   last-written left number moved after e few n w up =

@@ -32,7 +32,7 @@ pub fn join(aliases: &[u64], nodes: &[u64], state: Joining, frame: Frame) -> Joi
     join_from(state, sender, frame)
 }
 
-// A frame from a sender, 0 for one that is not in the list, in a state in bounds.
+// A frame whose sender is known, nobody being 0, where list and state are in bounds.
 fn join_from(j: Joining, n: u64, f: Frame) -> Joined
     requires { ⌜ j .count ≤ 2 ⌝ }
     ensures { λ r. ⌜ seenIn r ≡ frameSeen j n f ⌝ }
@@ -108,7 +108,7 @@ fn whole(j: Joining, n: u64, f: Frame) -> Joined
     }
 }
 
-// 0F16: a new message; it drops the sender's unfinished one.
+// 0F16: what its sender had begun is dropped, and this is begun.
 fn start(j: Joining, n: u64, f: Frame) -> Joined
     requires { ⌜ j .count ≤ 2 ⌝ }
     ensures { λ r. ⌜ seenIn r ≡ partSeen j n f Start ⌝ }
@@ -153,7 +153,7 @@ fn middle(j: Joining, n: u64, f: Frame) -> Joined
     quiet(next, 0)
 }
 
-// 0F14: the last one to eight bytes, and the message is handed out.
+// 0F14: with these one to eight bytes the report is whole, and goes out.
 fn last(j: Joining, n: u64, f: Frame) -> Joined
     requires { ⌜ j .count ≤ 2 ⌝ }
     ensures { λ r. ⌜ seenIn r ≡ partSeen j n f Last ⌝ }

@@ -17,7 +17,7 @@ abbrev μ-loop : tie.MeasureT-loop
 μ-loop g size bytes at payload₀ i₀ payload i = size - i
 
 loop-holds : tie.Need-loop-holds Inv-loop μ-loop
-loop-holds c = 
+loop-holds c =
     (search needs, none-written (c .before .args .g .payload) (c .before .args .t2) (c .before .args .g .payload) (c .before .args .g .length) 0, search (needs, c .before .good .0))
 
 array-read-payload : tie.Need-array-read-payload Inv-loop μ-loop
@@ -36,23 +36,26 @@ loop-less : tie.Need-loop-less Inv-loop μ-loop
 loop-less c = search needs
 
 loop-again : tie.Need-loop-again Inv-loop μ-loop
-loop-again c = 
-    (search needs,
-    next-written (c .before .loop .payload) (c .before .before .before .args .t2) (take (c .before .before .before .args .g .length) (c .before .before .before .args .g .payload)) (c .before .before .before .args .g .length) (c .before .loop .i) (search needs) (search needs) (c .before .loop .inv .1),
-    simp length-set (c .before .loop .inv .2))
+loop-again c = (
+  search needs,
+  next-written (c .before .loop .payload) (c .before .before .before .args .t2) (take (c .before .before .before .args .g .length) (c .before .before .before .args .g .payload)) (c .before .before .before .args .g .length) (c .before .loop .i) (search needs) (search needs) (c .before .loop .inv .1),
+  simp length-set (c .before .loop .inv .2),
+)
 
 add-t15 : tie.Need-add-t15 Inv-loop μ-loop
 add-t15 c = search needs
 
 returns : tie.Need-returns Inv-loop μ-loop
-returns c = 
+returns c =
     let old : length (c .before .before .before .args .g .payload) ≡ 256 = search (needs, c .before .before .before .good .0) in
     let done : c .before .loop .i ≡ c .before .before .before .args .size = omega arith in
-    let whole : take (c .before .before .before .args .g .length + c .before .before .before .args .size) (c .before .loop .payload) ≡ take (c .before .before .before .args .g .length) (c .before .before .before .args .g .payload) ++ take (c .before .before .before .args .size) (c .before .before .before .args .t2) = subst (λ (n : ℕ). take (c .before .before .before .args .g .length + n) (c .before .loop .payload) ≡ take (c .before .before .before .args .g .length) (c .before .before .before .args .g .payload) ++ take n (c .before .before .before .args .t2)) done (c .before .loop .inv .1) in
-    (ap (begun (c .before .before .before .args .g .sender) (c .before .before .before .args .g .event))
-    (first-bytes (c .before .loop .payload) (c .before .before .before .args .g .length + c .before .before .before .args .size) (omega (arith, c .before .before .before .pre .1, c .before .loop .inv .2))
-    ∙ whole
-    ∙ ap (λ (l : List ℕ). l ++ take (c .before .before .before .args .size) (c .before .before .before .args .t2)) (sym (first-bytes (c .before .before .before .args .g .payload) (c .before .before .before .args .g .length) (omega (arith, c .before .before .before .pre .1, old))))), omega arith)
+    let whole : take (c .before .before .before .args .g .length + c .before .before .before .args .size) (c .before .loop .payload) ≡ take (c .before .before .before .args .g .length) (c .before .before .before .args .g .payload) ++ take (c .before .before .before .args .size) (c .before .before .before .args .t2) = subst (λ (n : ℕ). take (c .before .before .before .args .g .length + n) (c .before .loop .payload) ≡ take (c .before .before .before .args .g .length) (c .before .before .before .args .g .payload) ++ take n (c .before .before .before .args .t2)) done (c .before .loop .inv .1) in (
+      ap (begun (c .before .before .before .args .g .sender) (c .before .before .before .args .g .event))
+          (first-bytes (c .before .loop .payload) (c .before .before .before .args .g .length + c .before .before .before .args .size) (omega (arith, c .before .before .before .pre .1, c .before .loop .inv .2))
+          ∙ whole
+          ∙ ap (λ (l : List ℕ). l ++ take (c .before .before .before .args .size) (c .before .before .before .args .t2)) (sym (first-bytes (c .before .before .before .args .g .payload) (c .before .before .before .args .g .length) (omega (arith, c .before .before .before .pre .1, old))))),
+      omega arith,
+    )
 
 pub longer-spec : {M : Type 1} → statement M
 longer-spec =
