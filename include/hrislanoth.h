@@ -41,6 +41,9 @@ hrislanoth_block hrislanoth_block_of(uint64_t number);
 /* The number that a block is written as; 14 where it has none, or is no block. */
 hrislanoth_number hrislanoth_number_of(hrislanoth_block block);
 
+/* How two blocks lie to each other, as a number: 1 equal, 2 the first inside the second, 3 the second inside the first, 4 apart; 14, and 0 beside it, where either is no block. */
+hrislanoth_number hrislanoth_compare(hrislanoth_block first, hrislanoth_block second);
+
 /* ---- messages (003 section 3.1) */
 
 /* has_destination and has_event are 0 for no, any other number for yes. */

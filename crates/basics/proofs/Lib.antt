@@ -1,5 +1,6 @@
 pub mod Bools
 pub mod Lists
+pub mod Among
 pub mod Each
 pub mod Sets
 pub mod Bits

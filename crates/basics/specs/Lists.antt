@@ -1,5 +1,7 @@
--- Lists: what passes a test, what is left out, what the first one gives, and a list made place by place.
+-- Lists: what passes a test, what is there, what is left out, what the first one gives, and a list made place by place.
 use Prim.Native.Nat.{ℕ, zero, suc}
+use mathlib.Core.Path.{_≡_}
+use mathlib.Core.Logic.{_⊎_}
 use mathlib.Core.Bool.{Bool, false, cond, _||_}
 use mathlib.Core.List.{List, [], _∷_, _++_}
 
@@ -7,6 +9,11 @@ use mathlib.Core.List.{List, [], _∷_, _++_}
 abbrev pub any : {A : Type 0} → (A → Bool) → List A → Bool
 any test [] = false
 any test (x ∷ xs) = test x || any test xs
+
+-- One of a list.
+abbrev pub Among : {A : Type 0} → A → List A → Type 0
+Among x [] = ⊥
+Among x (y ∷ ys) = (x ≡ y) ⊎ Among x ys
 
 -- Those that do not pass, in their order.
 abbrev pub without : {A : Type 0} → (A → Bool) → List A → List A

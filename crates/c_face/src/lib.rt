@@ -8,6 +8,7 @@ ghost use mathlib.Core.Path.{_≡_};
 ghost use lib.ListN.{drop};
 ghost use Rattle.range.specs.Range.{blockOf};
 ghost use Rattle.range.specs.Answer.{numberTold};
+ghost use Rattle.range.specs.Comparing.{comparison, comparisonTold};
 ghost use Rattle.text.specs.Text.{filledAt, endAt};
 ghost use Rattle.message.specs.Reading.{readTold};
 ghost use Rattle.message.specs.Writing.{writingTold, writeTold, outAfter};
@@ -26,6 +27,7 @@ use message::Message;
 use message::Reading;
 use message::Writing;
 use range::Block;
+use range::Comparison;
 use range::RangeNumber;
 
 #[repr(C)]
@@ -76,6 +78,25 @@ pub extern "C" fn hrislanoth_number_of(block: Block) -> FlatNumber
             number: 0,
         },
     }
+}
+
+#[no_mangle]
+pub extern "C" fn hrislanoth_compare(first: Block, second: Block) -> FlatNumber
+    ensures { λ n. ⌜ n ≡ toldNumber (comparisonTold (comparison first second)) ⌝ }
+{
+    let number = match range::compare(first, second) {
+        Comparison::Equal => 1,
+        Comparison::FirstInside => 2,
+        Comparison::SecondInside => 3,
+        Comparison::Apart => 4,
+        Comparison::NoBlock => {
+            return FlatNumber {
+                refusal: 14,
+                number: 0,
+            }
+        }
+    };
+    FlatNumber { refusal: 0, number }
 }
 
 #[no_mangle]

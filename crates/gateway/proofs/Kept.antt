@@ -7,7 +7,8 @@ use native.Mathlib.Nat.{le-refl}
 use native.Mathlib.Omega.{arith}
 use Rattle.gateway_rules.specs.declared.Line.{Line}
 use Rattle.gateway.specs.State.{Lists, lineAt, Whole, linesIn, putAt}
-use Rattle.basics.specs.Lists.{without}
+use Rattle.basics.specs.Lists.{any, without}
+use Rattle.basics.proofs.Lists.{without-nothing}
 use Rattle.gateway.proofs.Places.{no-places, left-out, kept-on, put-last, put-elsewhere, put-whole}
 
 pub record Kept (out : Line → Bool) (before there : Lists) (i j : ℕ) : Type 0 where
@@ -15,12 +16,16 @@ pub record Kept (out : Line → Bool) (before there : Lists) (i j : ℕ) : Type 
   pub stay : linesIn j there ≡ without out (linesIn i before)
   pub rest : (n : ℕ) → i ≤ n → lineAt there n ≡ lineAt before n
 
-pub none-passed : (out : Line → Bool) (before : Lists) → Whole before → Kept out before before 0 0
-none-passed out before w = record {
+-- Lines of which none goes stay where they stand.
+pub none-gone : (out : Line → Bool) (before : Lists) (n : ℕ) → Whole before → any out (linesIn n before) ≡ false → Kept out before before n n
+none-gone out before n w none = record {
   whole = w;
-  stay = no-places (lineAt before) ∙ sym (ap (without out) (no-places (lineAt before)));
+  stay = sym (without-nothing out (linesIn n before) none);
   rest = λ _ _. refl;
 }
+
+pub none-passed : (out : Line → Bool) (before : Lists) → Whole before → Kept out before before 0 0
+none-passed out before w = none-gone out before 0 w (ap (any out) (no-places (lineAt before)))
 
 module _ (out : Line → Bool) (before there : Lists) (i j : ℕ) (l : Line) (k : Kept out before there i j) (at : l ≡ lineAt there i) where
   here : l ≡ lineAt before i

@@ -3,6 +3,7 @@ mod Bits
 mod Held
 mod InBounds
 mod Kept
+mod Lookup
 pub mod Lending
 mod Marks
 mod Naming

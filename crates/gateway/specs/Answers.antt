@@ -16,11 +16,13 @@ use Rattle.message.specs.Reading.{readingTold}
 use Rattle.message.specs.Saying.{saidBy}
 use Rattle.gateway_rules.specs.declared.Line.{Line}
 use Rattle.gateway_rules.specs.State.{Gate, full}
-use Rattle.gateway_rules.specs.Step.{Outcome, lineHolds, wantedAt, refusing, step}
+use Rattle.gateway_rules.specs.Step.{Outcome, covered, holdsSome, lineHolds, wantedAt, refusing, step}
 use Rattle.gateway.specs.declared.Answer.{Answer}
 use Rattle.gateway.specs.declared.LentAnswer.{LentAnswer}
 use Rattle.gateway.specs.declared.state.Head.{Head}
 use Rattle.gateway.specs.declared.state.Gateway.{Gateway}
+use Rattle.gateway.specs.declared.lines.Standing.{Standing}
+use Rattle.gateway.specs.declared.lines.Standing.the-variants.{Covered, Holding, New}
 use Rattle.gateway.specs.State.{Lists, gateIn, gateOf, headWith}
 
 pub record Seen : Type 0 where
@@ -74,3 +76,7 @@ holding set e lines = setOf 8 (λ p. inSet set p || any (lineHolds p e) lines)
 -- What is announced is a block.
 abbrev pub AnnouncesBlock : Saying → Type 0
 AnnouncesBlock s = (b : Block) → s ≡ Announcement b → isBlock b ≡ true
+
+-- How a line stands to those of a table: inside one of them, else holding some, else new (document 02, W4).
+abbrev pub standsAs : List Line → Line → Standing
+standsAs lines l = cond (covered lines l) Covered (cond (holdsSome lines l) Holding New)

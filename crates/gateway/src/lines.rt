@@ -3,12 +3,13 @@ ghost use mathlib.Core.Path.{_≡_};
 ghost use mathlib.Core.Bool.{true, false};
 ghost use Prim.Native.Nat.{_≤_, _<_};
 ghost use Rattle.range.specs.Range.{isBlock};
-ghost use Rattle.gateway_rules.specs.Step.{sameLine, has as hasLine, ofNode};
+ghost use Rattle.gateway_rules.specs.Step.{within as withinOf, heldBy, holdsSome, ofNode};
 ghost use Rattle.basics.specs.Lists.{any, without};
+ghost use Rattle.gateway.specs.Answers.{standsAs};
 ghost use Rattle.gateway.specs.State.{Whole, lineAt, linesIn, putAt, noBlock, held, entered, left};
 use gateway_rules::Line;
-use range::Answer;
 use range::Block;
+use range::Comparison;
 
 pub(crate) fn line_at(nodes: &[u64], starts: &[u64], ports: &[u8], sizes: &[u8], i: usize) -> Line
     requires { ⌜ Whole (held nodes starts ports sizes) ⌝ }
@@ -44,35 +45,51 @@ pub(crate) fn put_line(
     sizes[i] = block.k;
 }
 
-// Whether a line is there.
-pub(crate) fn has(
+// How a line stands to those of the table: inside one, else holding some, else new (document 02, W4).
+pub(crate) enum Standing {
+    Covered,
+    Holding,
+    New,
+}
+
+pub(crate) fn looked_for(
     count: usize,
     nodes: &[u64],
     starts: &[u64],
     ports: &[u8],
     sizes: &[u8],
     l: Line,
-) -> bool
+) -> Standing
     requires { ⌜ count ≤ 256 ⌝ }
     requires { ⌜ Whole (held nodes starts ports sizes) ⌝ }
     requires { ⌜ isBlock (l .block) ≡ true ⌝ }
     requires { ⌜ any noBlock (linesIn count (held nodes starts ports sizes)) ≡ false ⌝ }
-    ensures { λ yes. ⌜ yes ≡ hasLine (linesIn count (entered nodes starts ports sizes)) l ⌝ }
+    ensures { λ r. ⌜ r ≡ standsAs (linesIn count (entered nodes starts ports sizes)) l ⌝ }
 {
+    let mut holding = false;
     let mut i = 0;
     while i < count {
         let x = line_at(nodes, starts, ports, sizes, i);
         i += 1;
-        if same_line(l, x) {
-            return true;
+        if within(l, x) {
+            return Standing::Covered;
+        }
+        if within(x, l) {
+            holding = true;
+            continue;
         }
     }
-    false
+    if holding {
+        Standing::Holding
+    } else {
+        Standing::New
+    }
 }
 
-fn same_line(a: Line, b: Line) -> bool
+// Whether one line is inside another, or equal to it.
+fn within(a: Line, b: Line) -> bool
     requires { ⌜ (isBlock (a .block) ≡ true) × (isBlock (b .block) ≡ true) ⌝ }
-    ensures { λ yes. ⌜ yes ≡ sameLine a b ⌝ }
+    ensures { λ yes. ⌜ yes ≡ withinOf a b ⌝ }
 {
     let x = a.block;
     let y = b.block;
@@ -82,11 +99,69 @@ fn same_line(a: Line, b: Line) -> bool
     if a.node != b.node {
         return false;
     }
-    match range::same(x, y) {
-        Answer::Yes => true,
-        Answer::No => false,
-        Answer::NoBlock => false,
+    match range::compare(x, y) {
+        Comparison::Equal => true,
+        Comparison::FirstInside => true,
+        Comparison::SecondInside => false,
+        Comparison::Apart => false,
+        Comparison::NoBlock => false,
     }
+}
+
+// How many lines stand before the first that one holds; the count where it holds none.
+fn before_held(
+    count: usize,
+    nodes: &[u64],
+    starts: &[u64],
+    ports: &[u8],
+    sizes: &[u8],
+    l: Line,
+) -> usize
+    requires { ⌜ count ≤ 256 ⌝ }
+    requires { ⌜ Whole (held nodes starts ports sizes) ⌝ }
+    requires { ⌜ isBlock (l .block) ≡ true ⌝ }
+    requires { ⌜ any noBlock (linesIn count (held nodes starts ports sizes)) ≡ false ⌝ }
+    ensures { λ n. ⌜ (n ≤ count) × (holdsSome (linesIn n (entered nodes starts ports sizes)) l ≡ false) ⌝ }
+{
+    let mut i = 0;
+    while i < count {
+        let x = line_at(nodes, starts, ports, sizes, i);
+        if within(x, l) {
+            return i;
+        }
+        i += 1;
+    }
+    i
+}
+
+// Takes the lines out that one holds, and answers how many stay: one pass, the rest keeping their order, and those before the first that goes are not written.
+pub(crate) fn without_held(
+    count: usize,
+    nodes: &mut [u64],
+    starts: &mut [u64],
+    ports: &mut [u8],
+    sizes: &mut [u8],
+    l: Line,
+) -> usize
+    requires { ⌜ count ≤ 256 ⌝ }
+    requires { ⌜ Whole (held nodes starts ports sizes) ⌝ }
+    requires { ⌜ isBlock (l .block) ≡ true ⌝ }
+    requires { ⌜ any noBlock (linesIn count (held nodes starts ports sizes)) ≡ false ⌝ }
+    ensures { λ kept. ⌜ linesIn kept (left nodes starts ports sizes) ≡ without (heldBy l) (linesIn count (entered nodes starts ports sizes)) ⌝ }
+{
+    let first = before_held(count, nodes, starts, ports, sizes, l);
+    let mut i = first;
+    let mut j = first;
+    while i < count {
+        let x = line_at(nodes, starts, ports, sizes, i);
+        i += 1;
+        if within(x, l) {
+            continue;
+        }
+        put_line(nodes, starts, ports, sizes, j, x);
+        j += 1;
+    }
+    j
 }
 
 // Takes a node's lines out, and answers how many stay: one pass, the rest keeping their order.

@@ -4,11 +4,12 @@ ghost use mathlib.Core.Bool.{true, false};
 ghost use Prim.Native.Nat.{_<_};
 ghost use Rattle.range.specs.Range.{isBlock};
 ghost use Rattle.gateway_rules.specs.State.{outOfBounds};
-ghost use Rattle.gateway_rules.specs.Step.{announce as announceTo, hear as hearAt, restart as restartOf};
-ghost use Rattle.gateway.specs.State.{Whole, gateIn, gateAfter, held, entered, left};
+ghost use Rattle.gateway_rules.specs.Step.{announce as announceTo, hear as hearAt, holdsSome, replacing, restart as restartOf, storing};
+ghost use Rattle.gateway.specs.State.{Whole, linesIn, gateIn, gateAfter, held, entered, left};
 ghost use Rattle.gateway.specs.Answers.{AnnouncesBlock};
 use crate::Head;
 use crate::lines;
+use crate::lines::Standing;
 use crate::port_sets;
 use gateway_rules::Line;
 use message::Saying;
@@ -81,10 +82,48 @@ fn announce(
     requires { ⌜ (l .port < head .ports) × (isBlock (l .block) ≡ true) ⌝ }
     ensures { λ r. ⌜ gateAfter head r (left nodes starts ports sizes) ≡ announceTo (gateIn head (entered nodes starts ports sizes)) l ⌝ }
 {
-    let count = head.count;
-    if lines::has(count, nodes, starts, ports, sizes, l) {
-        return unchanged(head);
+    match lines::looked_for(head.count, nodes, starts, ports, sizes, l) {
+        Standing::Covered => unchanged(head),
+        Standing::Holding => replace(head, nodes, starts, ports, sizes, l),
+        Standing::New => store(head, nodes, starts, ports, sizes, l),
     }
+}
+
+fn replace(
+    head: Head,
+    nodes: &mut [u64],
+    starts: &mut [u64],
+    ports: &mut [u8],
+    sizes: &mut [u8],
+    l: Line,
+) -> Left
+    requires { ⌜ Whole (held nodes starts ports sizes) ⌝ }
+    requires { ⌜ outOfBounds (gateIn head (held nodes starts ports sizes)) ≡ false ⌝ }
+    requires { ⌜ (isBlock (l .block) ≡ true) × (holdsSome (linesIn (head .count) (held nodes starts ports sizes)) l ≡ true) ⌝ }
+    ensures { λ r. ⌜ gateAfter head r (left nodes starts ports sizes) ≡ replacing (gateIn head (entered nodes starts ports sizes)) l ⌝ }
+{
+    let kept = lines::without_held(head.count, nodes, starts, ports, sizes, l);
+    lines::put_line(nodes, starts, ports, sizes, kept, l);
+    Left {
+        marks: head.marks,
+        count: kept + 1,
+    }
+}
+
+fn store(
+    head: Head,
+    nodes: &mut [u64],
+    starts: &mut [u64],
+    ports: &mut [u8],
+    sizes: &mut [u8],
+    l: Line,
+) -> Left
+    requires { ⌜ Whole (held nodes starts ports sizes) ⌝ }
+    requires { ⌜ outOfBounds (gateIn head (held nodes starts ports sizes)) ≡ false ⌝ }
+    requires { ⌜ l .port < head .ports ⌝ }
+    ensures { λ r. ⌜ gateAfter head r (left nodes starts ports sizes) ≡ storing (gateIn head (entered nodes starts ports sizes)) l ⌝ }
+{
+    let count = head.count;
     if count < 256 {
         lines::put_line(nodes, starts, ports, sizes, count, l);
         return Left {

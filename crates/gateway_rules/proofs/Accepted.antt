@@ -12,7 +12,7 @@ use Rattle.gateway_rules.specs.History.{Entry, after, Heard, heardOf, ac
 use Rattle.gateway_rules.proofs.Sending.{refusal-first}
 use Rattle.gateway_rules.proofs.Hearing.{heardBy, heard-by-number}
 use Rattle.gateway_rules.proofs.Demand3.{start-box}
-use Rattle.gateway_rules.proofs.Distinct.{always-in-bounds}
+use Rattle.gateway_rules.proofs.Unnested.{always-in-bounds}
 
 -- ---- one entry, from any state in bounds
 

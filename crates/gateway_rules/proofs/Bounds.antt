@@ -3,7 +3,7 @@ use Prim.Native.Nat.{ℕ, zero, suc, _≤_, _<_, zero-le}
 use mathlib.Core.Path.{_≡_, refl, sym, ap, ap₂, _∙_, subst}
 use mathlib.Core.Logic.{⊎-elim}
 use mathlib.Core.Bool.{Bool, true, false, _&&_, _||_, and-false, false≢true}
-use mathlib.Core.List.{[], _∷_}
+use mathlib.Core.List.{List, [], _∷_, _++_}
 use native.Mathlib.Nat.{le-trans}
 use native.Mathlib.Omega.{arith}
 use borrow.Author.Tests.{eqb-true, le-ltb, lt-leb}
@@ -16,14 +16,15 @@ use Rattle.message.specs.declared.Message.{Message}
 use Rattle.message.specs.Messages.{badNode}
 use Rattle.message.specs.declared.Saying.the-variants.{Announcement}
 use Rattle.message.specs.Saying.{saidBy}
-use Rattle.basics.specs.Lists.{any}
+use Rattle.basics.specs.Lists.{any, without}
 use Rattle.basics.specs.Sets.{anyBelow}
+use Rattle.gateway_rules.specs.declared.Line.{Line}
 use Rattle.gateway_rules.specs.State.{Gate, full, badPorts, badLine, outOfBounds, startOf}
-use Rattle.gateway_rules.specs.Step.{line, ofNode, taken}
-use Rattle.basics.proofs.Lists.{any-append, without-none}
+use Rattle.gateway_rules.specs.Step.{line, heldBy, withLines, ofNode, taken}
+use Rattle.basics.proofs.Lists.{any-append, without-none, fewer-without}
 use Rattle.gateway_rules.proofs.Said.{announcement-block}
 use Rattle.gateway_rules.proofs.Changes.{Change, change-of, restart-few}
-use Rattle.gateway_rules.proofs.Changes.Change.{restarted, known, added, opened, passed}
+use Rattle.gateway_rules.proofs.Changes.Change.{restarted, covered-already, replaced, added, opened, passed}
 use Rattle.gateway_rules.proofs.Holding.{either-true, true-or-false}
 
 pub record Bounded (g : Gate) : Type 0 where
@@ -57,12 +58,24 @@ bounded-in g b = rw (
 
 pub same-box : {g g′ : Gate} {q : ℕ} {m : Message} → Change g q m g′ → (g′ .ports ≡ g .ports) × (g′ .automatic ≡ g .automatic)
 same-box (restarted e) = (refl, refl)
-same-box (known b e t) = (refl, refl)
-same-box (added b e f room) = (refl, refl)
-same-box (opened b e f most) = (refl, refl)
+same-box (covered-already b e t) = (refl, refl)
+same-box (replaced b e f t) = (refl, refl)
+same-box (added b e n room) = (refl, refl)
+same-box (opened b e n most) = (refl, refl)
 same-box (passed e) = (refl, refl)
 
 module _ (g : Gate) (q : ℕ) (m : Message) (i : Bounded g) (port : q < g .ports) (node : badNode (m .source) ≡ false) where
+  -- One line more behind lines in bounds, where there is room.
+  bounded-stored : (b : Block) → saidBy m ≡ Announcement b → (rest : List Line) → any (badLine (g .ports)) rest ≡ false → length rest < full
+      → Bounded (withLines g (rest ++ (line q (m .source) b ∷ [])))
+  bounded-stored b e rest good room = record {
+    ports-ok = i .ports-ok;
+    few = omega (arith, length-append rest (line q (m .source) b ∷ []), room);
+    lines-ok = any-append (badLine (g .ports)) rest (line q (m .source) b ∷ []) ∙ rw (good, lt-leb (g .ports) q port, node, announcement-block m b e);
+    marks-ok = i .marks-ok;
+    automatic-ok = i .automatic-ok;
+  }
+
   bounded-change : {g′ : Gate} → Change g q m g′ → Bounded g′
   bounded-change (restarted e) = record {
     ports-ok = i .ports-ok;
@@ -71,19 +84,13 @@ module _ (g : Gate) (q : ℕ) (m : Message) (i : Bounded g) (port : q < g .ports
     marks-ok = i .marks-ok;
     automatic-ok = i .automatic-ok;
   }
-  bounded-change (known b e t) = i
-  bounded-change (added b e f room) = record {
-    ports-ok = i .ports-ok;
-    few = omega (arith, length-append (g .lines) (line q (m .source) b ∷ []), room);
-    lines-ok = any-append (badLine (g .ports)) (g .lines) (line q (m .source) b ∷ [])
-        ∙ ap₂ (λ (x y : Bool). x || y) (i .lines-ok) (good b e);
-    marks-ok = i .marks-ok;
-    automatic-ok = i .automatic-ok;
-  }
-    where
-      good : (b : Block) → saidBy m ≡ Announcement b → any (badLine (g .ports)) (line q (m .source) b ∷ []) ≡ false
-      good b e = rw (lt-leb (g .ports) q port, node, announcement-block m b e)
-  bounded-change (opened b e f most) = record {
+  bounded-change (covered-already b e t) = i
+  bounded-change (replaced b e f t) =
+      bounded-stored b e (without (heldBy (line q (m .source) b)) (g .lines))
+      (without-none (badLine (g .ports)) (heldBy (line q (m .source) b)) (g .lines) (i .lines-ok))
+      (le-trans (fewer-without (heldBy (line q (m .source) b)) (g .lines) t) (i .few))
+  bounded-change (added b e n room) = bounded-stored b e (g .lines) (i .lines-ok) room
+  bounded-change (opened b e n most) = record {
     ports-ok = i .ports-ok;
     few = i .few;
     lines-ok = i .lines-ok;

@@ -1,9 +1,10 @@
--- The ways in which an accepted message can change the state: one for each case of the document. What a restart leaves is in `restart-has`.
+-- The ways in which an accepted message can change the state: one for each case of the document. What a restart leaves is in `restart-leaves`.
 use Prim.Native.Nat.{ℕ, zero, suc, _≤_, _<_}
 use mathlib.Core.Path.{_≡_, refl, ap}
-use mathlib.Core.Bool.{Bool, true, false, cond, not, _&&_}
+use mathlib.Core.Logic.{_↔_}
+use mathlib.Core.Bool.{Bool, true, false, cond}
 use mathlib.Core.List.{List, [], _∷_, _++_}
-use borrow.Author.Tests.{ltb-true, ltb-false}
+use borrow.Author.Tests.{ltb-true, ltb-false, ne-eqb}
 use lib.Dec.{ltb}
 use lib.ListN.{length}
 use Rattle.range.specs.declared.Block.{Block}
@@ -13,19 +14,27 @@ use Rattle.message.specs.declared.Saying.the-variants.{Report, Announcement, Re
 use Rattle.message.specs.Reading.{messageIn}
 use Rattle.message.specs.Saying.{saidBy}
 use Rattle.basics.specs.Refusals.{firstOf, answered}
+use Rattle.basics.specs.Lists.{Among}
 use Rattle.basics.proofs.Lists.{length-without}
+use Rattle.basics.proofs.Among.{among-without, among-kept, any-stays}
 use Rattle.gateway_rules.specs.declared.Line.{Line}
 use Rattle.gateway_rules.specs.State.{Gate, full}
-use Rattle.gateway_rules.specs.Step.{line, has, ofNode, adding, opening, announce, hear, taken, taking, refusing, stepTests, step}
+use Rattle.gateway_rules.specs.Step.{line, within, covered, holdsSome, ofNode, adding, replacing, opening, storing, announce, hear, taken, taking, refusing, stepTests, step}
 use Rattle.gateway_rules.specs.History.{Heard, leftBy, changing}
-use Rattle.gateway_rules.proofs.Lists.{has-without}
+use Rattle.gateway_rules.proofs.Within.{inner}
+
+-- Neither inside a line of that port and node nor holding one (document 02, W4).
+pub record New (g : Gate) (l : Line) : Type 0 where
+  pub not-inside : covered (g .lines) l ≡ false
+  pub holds-none : holdsSome (g .lines) l ≡ false
 
 pub data Change (g : Gate) (q : ℕ) (m : Message) : Gate → Type 0 where
   restarted : saidBy m ≡ Restart → Change g q m (hear g q (m .source) Restart)
-  known : (b : Block) → saidBy m ≡ Announcement b → has (g .lines) (line q (m .source) b) ≡ true → Change g q m g
-  added : (b : Block) → saidBy m ≡ Announcement b → has (g .lines) (line q (m .source) b) ≡ false → length (g .lines) < full
-      → Change g q m (adding g (line q (m .source) b))
-  opened : (b : Block) → saidBy m ≡ Announcement b → has (g .lines) (line q (m .source) b) ≡ false → full ≤ length (g .lines) → Change g q m (opening g q)
+  covered-already : (b : Block) → saidBy m ≡ Announcement b → covered (g .lines) (line q (m .source) b) ≡ true → Change g q m g
+  replaced : (b : Block) → saidBy m ≡ Announcement b → covered (g .lines) (line q (m .source) b) ≡ false → holdsSome (g .lines) (line q (m .source) b) ≡ true
+      → Change g q m (replacing g (line q (m .source) b))
+  added : (b : Block) → saidBy m ≡ Announcement b → New g (line q (m .source) b) → length (g .lines) < full → Change g q m (adding g (line q (m .source) b))
+  opened : (b : Block) → saidBy m ≡ Announcement b → New g (line q (m .source) b) → full ≤ length (g .lines) → Change g q m (opening g q)
   passed : changing (saidBy m) ≡ false → Change g q m g
 
 -- Every accepted message changes the state in one of these ways.
@@ -33,18 +42,23 @@ pub change-of : (g : Gate) (q : ℕ) (m : Message) → Change g q m (taken g q m
 unfolding taken announce
 change-of g q m = by-saying (saidBy m) refl
   where
-    by-room : (b : Block) → saidBy m ≡ Announcement b → has (g .lines) (line q (m .source) b) ≡ false → (t : Bool) → ltb (length (g .lines)) full ≡ t
+    by-room : (b : Block) → saidBy m ≡ Announcement b → New g (line q (m .source) b) → (t : Bool) → ltb (length (g .lines)) full ≡ t
         → Change g q m (cond t (adding g (line q (m .source) b)) (opening g q))
     by-room b e n true f = added b e n (ltb-true (length (g .lines)) full f)
     by-room b e n false f = opened b e n (ltb-false (length (g .lines)) full f)
 
-    by-line : (b : Block) → saidBy m ≡ Announcement b → (t : Bool) → has (g .lines) (line q (m .source) b) ≡ t
-        → Change g q m (cond t g (cond (ltb (length (g .lines)) full) (adding g (line q (m .source) b)) (opening g q)))
-    by-line b e true f = known b e f
-    by-line b e false f = by-room b e f (ltb (length (g .lines)) full) refl
+    by-held : (b : Block) → saidBy m ≡ Announcement b → covered (g .lines) (line q (m .source) b) ≡ false → (t : Bool) → holdsSome (g .lines) (line q (m .source) b) ≡ t
+        → Change g q m (cond t (replacing g (line q (m .source) b)) (storing g (line q (m .source) b)))
+    by-held b e n true f = replaced b e n f
+    by-held b e n false f = by-room b e (record { not-inside = n; holds-none = f }) (ltb (length (g .lines)) full) refl
+
+    by-line : (b : Block) → saidBy m ≡ Announcement b → (t : Bool) → covered (g .lines) (line q (m .source) b) ≡ t
+        → Change g q m (cond t g (cond (holdsSome (g .lines) (line q (m .source) b)) (replacing g (line q (m .source) b)) (storing g (line q (m .source) b))))
+    by-line b e true f = covered-already b e f
+    by-line b e false f = by-held b e f (holdsSome (g .lines) (line q (m .source) b)) refl
 
     by-saying : (s : Saying) → saidBy m ≡ s → Change g q m (hear g q (m .source) s)
-    by-saying (Announcement b) e = by-line b e (has (g .lines) (line q (m .source) b)) refl
+    by-saying (Announcement b) e = by-line b e (covered (g .lines) (line q (m .source) b)) refl
     by-saying Restart e = restarted e
     by-saying (Report x) e = passed (ap changing e)
     by-saying (Inquiry role x) e = passed (ap changing e)
@@ -53,8 +67,13 @@ change-of g q m = by-saying (saidBy m) refl
     by-saying Nothing e = passed (ap changing e)
 
 -- A line is there after a restart exactly where it was there before and is not of the node that restarts.
-pub restart-has : (g : Gate) (q n : ℕ) (l : Line) → has (hear g q n Restart .lines) l ≡ (not (ofNode n l) && has (g .lines) l)
-restart-has g q n l = has-without (ofNode n) (g .lines) l
+pub restart-leaves : (g : Gate) (q n : ℕ) (l : Line) → Among l (hear g q n Restart .lines) ↔ (Among l (g .lines) × (ofNode n l ≡ false))
+restart-leaves g q n l = (among-without (ofNode n) (g .lines) l, λ w. among-kept (ofNode n) (g .lines) l (w .0) (w .1))
+
+-- What was inside a line still is, but for the node that restarts.
+pub restart-covers : (g : Gate) (q n : ℕ) (l : Line) → (l .node ≡ n → ⊥) → covered (g .lines) l ≡ true → covered (hear g q n Restart .lines) l ≡ true
+restart-covers g q n l other t =
+    any-stays (within l) (ofNode n) (g .lines) (λ x w. ne-eqb (x .node) n (λ e. other (inner l x w .node ∙ e))) t
 
 pub restart-few : (g : Gate) (q n : ℕ) → length (hear g q n Restart .lines) ≤ length (g .lines)
 restart-few g q n = length-without (ofNode n) (g .lines)

@@ -15,10 +15,11 @@ use Rattle.message.specs.declared.Message.{Message}
 use Rattle.message.specs.Reading.{messageIn}
 use Rattle.basics.specs.Refusals.{firstOf, answered}
 use Rattle.basics.specs.Lists.{any}
+use Rattle.basics.proofs.Among.{any-found, any-passed}
 use Rattle.gateway_rules.specs.State.{Gate, badPorts, startOf}
-use Rattle.gateway_rules.specs.Step.{line, lineHolds, wants, wantedAt, goesTo, taking, refusing, stepTests, Outcome, step, start}
+use Rattle.gateway_rules.specs.Step.{line, within, lineHolds, wants, wantedAt, goesTo, taking, refusing, stepTests, Outcome, step, start}
 use Rattle.gateway_rules.specs.History.{Entry, after, Heard, accepted, leftBy, Live, Opened, Holds, Reports, HeldBack}
-use Rattle.gateway_rules.proofs.Lists.{has-any, any-has}
+use Rattle.gateway_rules.proofs.Within.{within-holds}
 use Rattle.gateway_rules.proofs.Holding.{holds-always, true-or-false}
 use Rattle.gateway_rules.proofs.Bounds.{bounded-start}
 use Rattle.gateway_rules.proofs.Hearing.{left-box, history-left}
@@ -41,8 +42,8 @@ module _ (g : Gate) (empty : g .lines ≡ []) (closed : (p : ℕ) → g .marked 
 
       held : any (lineHolds p e) (leftBy g h .lines) ≡ true → ⊥
       held t =
-          let f = any-has (lineHolds p e) (leftBy g h .lines) t in
-          let l = f .line in
+          let f = any-found (lineHolds p e) (leftBy g h .lines) t in
+          let l = f .one in
           let w = both (eqb (l .port) p) (inBlock (l .block) e) (f .passes) in
           let live = holds .lines-live l (f .there) in
           k .not-live (l .node) (l .block) (subst (λ (x : ℕ). Live h x (l .node) (l .block)) (eqb-true (l .port) p (w .0)) live) (w .1)
@@ -60,7 +61,7 @@ module _ (g : Gate) (empty : g .lines ≡ []) (closed : (p : ℕ) → g .marked 
         not-automatic = sym (ap (λ (x : Block). inBlock x e) (left-box g h .1)) ∙ a .0;
         not-live = λ n k l u.
             ⊎-elim
-            (λ there. true≢false (sym (has-any (lineHolds p e) (leftBy g h .lines) (line p n k) there (ap₂ (λ (x y : Bool). x && y) (eq-eqb p p refl) u)) ∙ b .1))
+            (λ t. true≢false (sym (any-passed (within (line p n k)) (lineHolds p e) (leftBy g h .lines) (λ x w. within-holds p e (line p n k) x w (ap₂ (λ (x y : Bool). x && y) (eq-eqb p p refl) u)) t) ∙ b .1))
             unopened
             (holds .live-lines p n k l);
         not-opened = unopened;

@@ -4,7 +4,7 @@ use mathlib.Core.Path.{_≡_, refl}
 use mathlib.Core.Bool.{true, false, cond}
 use mathlib.Core.List.{List, [], _∷_, _++_}
 use lib.ListN.{length}
-use Rattle.range.specs.Range.{bitsEqual, run, isBlock, hasNumber, inBlock, single, blockOf, house, sameBlock}
+use Rattle.range.specs.Range.{bitsEqual, run, isBlock, hasNumber, inBlock, single, blockOf, house, inside}
 use Rattle.numbers.specs.Numbers.{spelled, bytesOf}
 use Rattle.message.specs.declared.Field.the-variants.{Present, Absent}
 use Rattle.message.specs.Mti.{meaningOf}
@@ -62,7 +62,7 @@ row refusal a b c d lines = record { refusal = refusal; digits = a ∷ b ∷ c �
 
 pub seven-lines : printed (startOf 4 house) seven
     ≡ row 0 1 0 1 1 1 ∷ row 0 0 1 0 0 1 ∷ row 0 1 0 1 1 1 ∷ row 0 0 1 0 0 1 ∷ row 0 1 0 1 1 0 ∷ row 0 0 0 0 0 0 ∷ row 8 0 0 0 0 0 ∷ []
-unfolding step outOfBounds isBlock hasNumber inBlock blockOf run bitsEqual sameBlock wants goesTo taken announce saidBy meaningOf fieldsIn badNodes badContent otherSource spelled bytesOf
+unfolding step outOfBounds isBlock hasNumber inBlock blockOf run bitsEqual inside wants goesTo taken announce saidBy meaningOf fieldsIn badNodes badContent otherSource spelled bytesOf
 seven-lines = refl
 
 -- ---- a live announcement, and a table that fills
@@ -90,11 +90,11 @@ something-live = record {
 
 -- 256 announcements fill the table, and the next opens the port.
 pub full-at-256 : (length (leftBy (startOf 4 house) (announcements 256) .lines) ≡ 256) × (leftBy (startOf 4 house) (announcements 256) .marked 1 ≡ false)
-unfolding taken announce saidBy meaningOf sameBlock
+unfolding taken announce saidBy meaningOf inside
 full-at-256 = (refl, refl)
 
 pub opens-at-257 : (length (leftBy (startOf 4 house) (announcements 257) .lines) ≡ 256) × (leftBy (startOf 4 house) (announcements 257) .marked 1 ≡ true)
-unfolding taken announce saidBy meaningOf sameBlock
+unfolding taken announce saidBy meaningOf inside
 opens-at-257 = (refl, refl)
 
 -- ---- the same said in other bytes

@@ -1,27 +1,29 @@
 -- What the table and the open marks say of the accepted messages, over every history.
-use Prim.Native.Nat.{ℕ, _≤_, zero-le}
+use Prim.Native.Nat.{ℕ, _≤_, _<_, zero-le}
 use native.Mathlib.Nat.{le-trans, le-antisymm}
-use mathlib.Core.Path.{_≡_, refl, sym, ap, ap₂, _∙_, subst}
+use mathlib.Core.Path.{_≡_, refl, sym, ap, _∙_, subst}
 use mathlib.Core.Logic.{_⊎_, inl, inr, ⊎-elim}
-use mathlib.Core.Bool.{Bool, true, false, not, _&&_, _||_, or-true, true≢false, false≢true}
+use mathlib.Core.Bool.{Bool, true, false, _||_, or-true, true≢false, false≢true}
 use mathlib.Core.List.{List, [], _∷_, _++_}
 use native.Mathlib.Omega.{arith}
 use borrow.Author.Tests.{eqb-true, eq-eqb}
 use lib.Dec.{eqb}
 use lib.ListN.{length, length-append}
 use Rattle.range.specs.declared.Block.{Block}
-use Rattle.basics.proofs.Bools.{both}
+use Rattle.basics.specs.Lists.{Among, without}
+use Rattle.basics.proofs.Lists.{any-append, fewer-without}
+use Rattle.basics.proofs.Among.{among-end, among-without, any-replaced}
 use Rattle.message.specs.declared.Saying.{Saying}
 use Rattle.message.specs.declared.Saying.the-variants.{Announcement, Restart}
 use Rattle.message.specs.Saying.{saidBy}
 use Rattle.gateway_rules.specs.declared.Line.{Line}
 use Rattle.gateway_rules.specs.State.{Gate, full}
-use Rattle.gateway_rules.specs.Step.{line, sameLine, has, ofNode, hear}
+use Rattle.gateway_rules.specs.Step.{line, within, heldBy, covered, holdsSome, withLines, hear}
 use Rattle.gateway_rules.specs.History.{Heard, changing, Announces, Restarts, Ends, Live, leftBy, Overflows, Opened, Holds}
-use Rattle.gateway_rules.proofs.Lists.{same-line, has-append}
+use Rattle.gateway_rules.proofs.Within.{within-more, covered-last}
 use Rattle.basics.proofs.Sinces.{by-end, since-none, since-new, since-old, since-end}
-use Rattle.gateway_rules.proofs.Changes.{Change, change-of, restart-has, restart-few, left-end}
-use Rattle.gateway_rules.proofs.Changes.Change.{restarted, known, added, opened, passed}
+use Rattle.gateway_rules.proofs.Changes.{New, Change, change-of, restart-leaves, restart-covers, restart-few, left-end}
+use Rattle.gateway_rules.proofs.Changes.Change.{restarted, covered-already, replaced, added, opened, passed}
 
 -- ---- live and opened, one message later
 
@@ -93,13 +95,17 @@ module _ (start : Gate) (h : List Heard) (s : Heard) (i : Holds start (leftBy st
   abbrev h′ : List Heard
   h′ = h ++ (s ∷ [])
 
-  -- Where the lines stay, those of before stay live, and no new one is needed.
-  still-live : ((l : Line) → Ends (l .port) (l .node) s → ⊥) → (l : Line) → has (g .lines) l ≡ true → Live h′ (l .port) (l .node) (l .block)
-  still-live stays l t = live-old (l .port) (l .node) (l .block) h s (i .lines-live l t) (stays l)
+  -- The line of what the message announces.
+  abbrev announced : Block → Line
+  announced b = line (s .port) (s .message .source) b
 
-  still-there : (lines : List Line) → ((l : Line) → has (g .lines) l ≡ true → (Ends (l .port) (l .node) s → ⊥) → has lines l ≡ true)
-      → ((p n : ℕ) (b : Block) → Announces p n b s → (has lines (line p n b) ≡ true) ⊎ Opened start h′ p)
-      → (p n : ℕ) (b : Block) → Live h′ p n b → (has lines (line p n b) ≡ true) ⊎ Opened start h′ p
+  -- Where the lines stay, those of before stay live, and no new one is needed.
+  still-live : ((l : Line) → Ends (l .port) (l .node) s → ⊥) → (l : Line) → Among l (g .lines) → Live h′ (l .port) (l .node) (l .block)
+  still-live stays l there = live-old (l .port) (l .node) (l .block) h s (i .lines-live l there) (stays l)
+
+  still-there : (lines : List Line) → ((l : Line) → covered (g .lines) l ≡ true → (Ends (l .port) (l .node) s → ⊥) → covered lines l ≡ true)
+      → ((p n : ℕ) (b : Block) → Announces p n b s → (covered lines (line p n b) ≡ true) ⊎ Opened start h′ p)
+      → (p n : ℕ) (b : Block) → Live h′ p n b → (covered lines (line p n b) ≡ true) ⊎ Opened start h′ p
   still-there lines stays new p n b l =
       ⊎-elim (new p n b)
       (λ w. ⊎-elim (λ t. inl (stays (line p n b) t (w .1))) (λ o. inr (opened-old start p h s o)) (i .live-lines p n b (w .0)))
@@ -111,54 +117,62 @@ module _ (start : Gate) (h : List Heard) (s : Heard) (i : Holds start (leftBy st
   still-marked : ((p : ℕ) → Overflows start p h s → ⊥) → (p : ℕ) → Opened start h′ p → g .marked p ≡ true
   still-marked none p o = ⊎-elim (λ v. absurd (none p v)) (i .opened-marks p) (opened-end start p h s o)
 
-  -- An announcement that has a line, or that is none, overflows nothing.
-  no-overflow : (b : Block) → saidBy (s .message) ≡ Announcement b → has (g .lines) (line (s .port) (s .message .source) b) ≡ true → (p : ℕ) → Overflows start p h s → ⊥
-  no-overflow b e t p v = true≢false (sym (ap (has (g .lines)) (announced-line (v .announces) e) ∙ t) ∙ v .new)
+  -- An announcement overflows only where it is new.
+  overflow-new : (b : Block) → saidBy (s .message) ≡ Announcement b → (p : ℕ) → Overflows start p h s → New g (announced b)
+  overflow-new b e p v = record {
+    not-inside = sym (ap (covered (g .lines)) (announced-line (v .announces) e)) ∙ v .not-inside;
+    holds-none = sym (ap (holdsSome (g .lines)) (announced-line (v .announces) e)) ∙ v .holds-none;
+  }
+
+  -- One line more, behind lines that were there, where what was inside a line still is.
+  stored : (b : Block) → saidBy (s .message) ≡ Announcement b → (rest : List Line) → ((l : Line) → Among l rest → Among l (g .lines))
+      → ((l : Line) → covered (g .lines) l ≡ true → covered (rest ++ (announced b ∷ [])) l ≡ true) → length rest < full → ((p : ℕ) → Overflows start p h s → ⊥)
+      → Holds start (withLines g (rest ++ (announced b ∷ []))) h′
+  stored b e rest there stays room none = record {
+    live-lines = still-there (rest ++ (announced b ∷ [])) (λ l t _. stays l t)
+        (λ p n b′ a. inl (ap (covered (rest ++ (announced b ∷ []))) (announced-line a e) ∙ covered-last rest (announced b)));
+    lines-live = λ l t.
+        ⊎-elim (λ u. still-live (λ _. no-restart b e) l (there l u))
+        (λ same.
+        subst (λ (x : Line). Live h′ (x .port) (x .node) (x .block)) (sym same)
+        (live-new (s .port) (s .message .source) b h s (record { here = refl; sender = refl; says = e })))
+        (among-end rest (announced b) l t);
+    opened-marks = still-marked none;
+    marks-opened = still-opened;
+    few = omega (arith, length-append rest (announced b ∷ []), room);
+  }
 
   holds-step : {g′ : Gate} → Change g (s .port) (s .message) g′ → Holds start g′ h′
   holds-step (restarted e) = record {
     live-lines = still-there (hear g (s .port) (s .message .source) Restart .lines)
-        (λ l t stays.
-        restart-has g (s .port) (s .message .source) l
-        ∙ ⊎-elim
-        (λ o. let f = eqb-true (l .node) (s .message .source) o in absurd (stays (record { node = cc; says = e })))
-        (λ o. ap₂ (λ (x y : Bool). not x && y) o t)
-        (true-or-false (ofNode (s .message .source) l)))
+        (λ l t stays. restart-covers g (s .port) (s .message .source) l (λ f. stays (record { node = sym f; says = e })) t)
         (λ p n b a. absurd (not-both (saidBy (s .message)) b e (a .says)));
     lines-live = λ l t.
-        let k = both (not (ofNode (s .message .source) l)) (has (g .lines) l) (sym (restart-has g (s .port) (s .message .source) l) ∙ t) in
-        live-old (l .port) (l .node) (l .block) h s (i .lines-live l (k .1))
-        (λ r. false≢true (sym (ap not (eq-eqb (l .node) (s .message .source) (sym (r .node)))) ∙ k .0));
+        let k = restart-leaves g (s .port) (s .message .source) l .0 t in
+        live-old (l .port) (l .node) (l .block) h s (i .lines-live l (k .0))
+        (λ r. true≢false (sym (eq-eqb (l .node) (s .message .source) (sym (r .node))) ∙ k .1));
     opened-marks = still-marked (λ p v. not-both (saidBy (s .message)) (v .block) e (v .announces .says));
     marks-opened = still-opened;
     few = le-trans (restart-few g (s .port) (s .message .source)) (i .few);
   }
-  holds-step (known b e t) = record {
-    live-lines = still-there (g .lines) (λ l u _. u) (λ p n b′ a. inl (ap (has (g .lines)) (announced-line a e) ∙ t));
+  holds-step (covered-already b e t) = record {
+    live-lines = still-there (g .lines) (λ l u _. u) (λ p n b′ a. inl (ap (covered (g .lines)) (announced-line a e) ∙ t));
     lines-live = still-live (λ l. no-restart b e);
-    opened-marks = still-marked (no-overflow b e t);
+    opened-marks = still-marked (λ p v. true≢false (sym t ∙ overflow-new b e p v .not-inside));
     marks-opened = still-opened;
     few = i .few;
   }
-  holds-step (added b e f room) = record {
-    live-lines = still-there (g .lines ++ (line (s .port) (s .message .source) b ∷ []))
-        (λ l u _. has-append (g .lines) (line (s .port) (s .message .source) b) l ∙ ap (λ (x : Bool). x || sameLine l (line (s .port) (s .message .source) b)) u)
-        (λ p n b′ a. inl (
-        has-append (g .lines) (line (s .port) (s .message .source) b) (line p n b′)
-        ∙ ap (λ (x : Bool). has (g .lines) (line p n b′) || x) (same-line (line p n b′) (line (s .port) (s .message .source) b) .1 (announced-line a e))
-        ∙ or-true (has (g .lines) (line p n b′))));
-    lines-live = λ l t.
-        ⊎-elim (still-live (λ l. no-restart b e) l)
-        (λ u.
-        let same = same-line l (line (s .port) (s .message .source) b) .0 u in
-        subst (λ (x : Line). Live h′ (x .port) (x .node) (x .block)) (sym same)
-        (live-new (s .port) (s .message .source) b h s (record { here = refl; sender = refl; says = e })))
-        (either-true (has (g .lines) l) (sameLine l (line (s .port) (s .message .source) b)) (sym (has-append (g .lines) (line (s .port) (s .message .source) b) l) ∙ t));
-    opened-marks = still-marked (λ p v. omega (arith, v .met, room));
-    marks-opened = still-opened;
-    few = omega (arith, length-append (g .lines) (line (s .port) (s .message .source) b ∷ []), room);
-  }
-  holds-step (opened b e f most) = record {
+  holds-step (replaced b e f t) =
+      stored b e (without (heldBy (announced b)) (g .lines)) (λ l u. among-without (heldBy (announced b)) (g .lines) l u .0)
+      (λ l u. any-replaced (within l) (heldBy (announced b)) (g .lines) (announced b) (λ x w o. within-more l x (announced b) w o) u)
+      (le-trans (fewer-without (heldBy (announced b)) (g .lines) t) (i .few))
+      (λ p v. true≢false (sym t ∙ overflow-new b e p v .holds-none))
+  holds-step (added b e n room) =
+      stored b e (g .lines) (λ l u. u)
+      (λ l u. any-append (within l) (g .lines) (announced b ∷ []) ∙ ap (λ (x : Bool). x || covered (announced b ∷ []) l) u)
+      room
+      (λ p v. omega (arith, v .met, room))
+  holds-step (opened b e n most) = record {
     live-lines = still-there (g .lines) (λ l u _. u) (λ p n b′ a. inr (subst (Opened start h′) (a .here) overflow));
     lines-live = still-live (λ l. no-restart b e);
     opened-marks = λ p o.
@@ -174,7 +188,8 @@ module _ (start : Gate) (h : List Heard) (s : Heard) (i : Holds start (leftBy st
         node = s .message .source;
         block = b;
         announces = record { here = refl; sender = refl; says = e };
-        new = f;
+        not-inside = n .not-inside;
+        holds-none = n .holds-none;
         met = le-antisymm (i .few) most;
       })
   holds-step (passed e) = record {
@@ -192,7 +207,7 @@ holds-always start empty closed = by-end (λ (h : List Heard). Holds start (left
     base : Holds start start []
     base = record {
       live-lines = λ p n b l. absurd (never-live p n b l);
-      lines-live = λ l t. absurd (false≢true (ap (λ (ls : List Line). has ls l) (sym empty) ∙ t));
+      lines-live = λ l t. absurd (subst (Among l) empty t);
       opened-marks = λ p o. absurd (never-opened start p o);
       marks-opened = λ p t. absurd (false≢true (sym (closed p) ∙ t));
       few = subst (λ (ls : List Line). length ls ≤ full) (sym empty) zero-le;

@@ -1,4 +1,4 @@
-pub mod Lists
+pub mod Within
 pub mod Said
 pub mod Changes
 pub mod Holding
@@ -9,11 +9,12 @@ pub mod Reasons
 pub mod Sending
 pub mod Asking
 pub mod OwnLines
-pub mod Distinct
+pub mod Unnested
 pub mod Accepted
 pub mod Sharing
 pub mod Examples
 pub mod AskedExamples
 pub mod MovedExamples
+pub mod CoveredExamples
 pub mod Reported
 pub mod Limits

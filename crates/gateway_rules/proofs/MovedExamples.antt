@@ -6,7 +6,7 @@ use mathlib.Core.List.{List, [], _∷_}
 use native.Mathlib.Omega.{arith}
 use lib.Dec.{eqb}
 use Rattle.numbers.specs.Numbers.{spelled, bytesOf}
-use Rattle.range.specs.Range.{bitsEqual, run, isBlock, hasNumber, inBlock, single, blockOf, house, sameBlock}
+use Rattle.range.specs.Range.{bitsEqual, run, isBlock, hasNumber, inBlock, single, blockOf, house, inside}
 use Rattle.message.specs.declared.Field.{Field}
 use Rattle.message.specs.declared.Field.the-variants.{Present, Absent}
 use Rattle.message.specs.declared.Saying.the-variants.{Restart}
@@ -45,7 +45,7 @@ carried =
 
 pub carried-lines : printed (startOf 4 house) carried
     ≡ row 0 1 0 1 1 1 ∷ row 0 1 0 1 1 2 ∷ row 0 0 1 0 0 2 ∷ row 0 1 1 1 0 1 ∷ row 0 0 0 0 0 1 ∷ row 0 1 1 1 0 2 ∷ row 0 0 0 0 1 2 ∷ row 0 0 1 0 0 2 ∷ []
-unfolding step outOfBounds isBlock hasNumber inBlock blockOf run bitsEqual sameBlock wants goesTo taken announce saidBy meaningOf fieldsIn badNodes badContent otherSource spelled bytesOf
+unfolding step outOfBounds isBlock hasNumber inBlock blockOf run bitsEqual inside wants goesTo taken announce saidBy meaningOf fieldsIn badNodes badContent otherSource spelled bytesOf
 carried-lines = refl
 
 -- Two boards with Node ID 11, on legs 1 and 2, and board 9 on leg 1: the restart of either takes the lines of both, and leaves board 9's.
@@ -65,7 +65,7 @@ oneNode =
 
 pub one-node-lines : printed (startOf 4 house) oneNode
     ≡ row 0 1 0 1 1 1 ∷ row 0 1 1 0 1 2 ∷ row 0 1 0 1 1 3 ∷ row 0 1 0 1 1 1 ∷ row 0 0 0 0 0 1 ∷ row 0 1 0 1 1 2 ∷ row 0 0 1 0 0 2 ∷ row 0 1 1 0 1 1 ∷ row 0 0 0 0 0 1 ∷ row 0 0 1 0 0 1 ∷ []
-unfolding step outOfBounds isBlock hasNumber inBlock blockOf run bitsEqual sameBlock wants goesTo taken announce saidBy meaningOf fieldsIn badNodes badContent otherSource spelled bytesOf
+unfolding step outOfBounds isBlock hasNumber inBlock blockOf run bitsEqual inside wants goesTo taken announce saidBy meaningOf fieldsIn badNodes badContent otherSource spelled bytesOf
 one-node-lines = refl
 
 -- ---- what a restart leaves, and what it does not end

@@ -11,7 +11,8 @@ use lib.Dec.{eqb, leb}
 use lib.ListN.{length}
 use Rattle.range.specs.declared.Block.{Block}
 use Rattle.range.specs.Range.{inBlock}
-use Rattle.basics.specs.Lists.{any}
+use Rattle.basics.specs.Lists.{any, Among}
+use Rattle.basics.proofs.Among.{among-put}
 use Rattle.basics.proofs.Bools.{both}
 use Rattle.message.specs.Reading.{messageIn}
 use Rattle.gateway_rules.specs.declared.Line.{Line}
@@ -19,10 +20,9 @@ use Rattle.gateway_rules.specs.declared.Holder.{Holder}
 use Rattle.gateway_rules.specs.declared.Reason.{Reason}
 use Rattle.gateway_rules.specs.declared.Reason.the-variants.{ArrivalPort, AutomaticEvent, OpenPort, HeldBy, NothingHolds}
 use Rattle.gateway_rules.specs.State.{Gate, startOf}
-use Rattle.gateway_rules.specs.Step.{has, lineHolds, wants, wantedAt, goesTo, Outcome, step, start}
+use Rattle.gateway_rules.specs.Step.{lineHolds, wants, wantedAt, goesTo, Outcome, step, start}
 use Rattle.gateway_rules.specs.History.{Entry, after, Heard, accepted, leftBy, Live, Opened, Holds, Reports, HeldBack}
 use Rattle.gateway_rules.specs.Reasons.{holder, firstHolding, reasonFor, sends, byLine, reasonTold, FirstHolding, TrueOf}
-use Rattle.gateway_rules.proofs.Lists.{has-within}
 use Rattle.gateway_rules.proofs.Holding.{holds-always}
 use Rattle.gateway_rules.proofs.Bounds.{bounded-start}
 use Rattle.gateway_rules.proofs.Hearing.{left-box, history-left}
@@ -183,7 +183,7 @@ module _ (start : Gate) (empty : start .lines ≡ []) (closed : (p : ℕ) → st
   live-line : (l : Holder) → FirstHolding p e 0 (g .lines) l → Live h p (l .node) (l .block) × (inBlock (l .block) e ≡ true)
   live-line l w =
       let parts = both (eqb (w .line .port) p) (inBlock (w .line .block) e) (w .holds) in
-      let there = ap (λ (lines : List Line). has lines (w .line)) (w .table) ∙ has-within (w .before) (w .later) (w .line) in
+      let there = subst (Among (w .line)) (sym (w .table)) (among-put (w .before) (w .later) (w .line)) in
       let live = holds .lines-live (w .line) there in
       let here = subst (λ (n : ℕ). Live h n (w .line .node) (w .line .block)) (eqb-true (w .line .port) p (parts .0)) live in
       let named = subst (λ (n : ℕ). Live h p n (w .line .block)) (sym (w .owner)) here in

@@ -22,7 +22,7 @@ use Rattle.basics.proofs.Lists.{without-append}
 use Rattle.basics.proofs.Sinces.{by-end, since-none, since-new, since-old, since-end}
 use Rattle.gateway_rules.proofs.Holding.{live-new, live-old, live-end, never-live, true-or-false}
 use Rattle.gateway_rules.proofs.Demand3.{start-box, demand-3}
-use Rattle.gateway_rules.proofs.Distinct.{always-in-bounds}
+use Rattle.gateway_rules.proofs.Unnested.{always-in-bounds}
 use Rattle.gateway_rules.proofs.Accepted.{step-accepts}
 
 -- ---- an announcement and a restart concern the port

@@ -1,4 +1,4 @@
--- Histories: accepted messages, live announcements and opened ports (document 01, "Gateway": "For demand 3"; document 02, W2).
+-- Histories: accepted messages, live announcements and opened ports (document 01, "Gateway": "For demand 3"; document 02, W2 and W4).
 use Prim.Native.Nat.{ℕ, _≤_}
 use mathlib.Core.Path.{_≡_}
 use mathlib.Core.Logic.{_⊎_}
@@ -17,8 +17,8 @@ use Rattle.message.specs.Reading.{messageIn, readTold}
 use Rattle.message.specs.Saying.{saidBy}
 use Rattle.gateway_rules.specs.declared.Line.{Line}
 use Rattle.gateway_rules.specs.State.{Gate, full}
-use Rattle.gateway_rules.specs.Step.{line, has, taken, step}
-use Rattle.basics.specs.Lists.{without}
+use Rattle.gateway_rules.specs.Step.{line, covered, holdsSome, taken, step}
+use Rattle.basics.specs.Lists.{Among, without}
 
 -- A history is a list of (port, bytes), refused ones among them, the oldest first.
 pub record Entry : Type 0 where
@@ -81,12 +81,13 @@ abbrev pub leftBy : Gate → List Heard → Gate
 leftBy g [] = g
 leftBy g (s ∷ h) = leftBy (taken g (s .port) (s .message)) h
 
--- An announcement at p for which there is no line meets a full table.
+-- An announcement at p that is new, neither inside a line of that port and node nor holding one, meets a full table (document 02, W4).
 pub record Overflows (g : Gate) (p : ℕ) (before : List Heard) (s : Heard) : Type 0 where
   pub node : ℕ
   pub block : Block
   pub announces : Announces p node block s
-  pub new : has (leftBy g before .lines) (line p node block) ≡ false
+  pub not-inside : covered (leftBy g before .lines) (line p node block) ≡ false
+  pub holds-none : holdsSome (leftBy g before .lines) (line p node block) ≡ false
   pub met : length (leftBy g before .lines) ≡ full
 
 unfoldable pub Opened : Gate → List Heard → ℕ → Type 0
@@ -94,10 +95,10 @@ Opened g h p = Since (Overflows g p) (λ _. ⊥) h
 
 -- ---- what the table and the marks say of the accepted messages
 
--- A live announcement has a line or its port was opened, a line is live, the marks are the opened ports, and there are at most 256 lines.
+-- A live announcement is inside a line or its port was opened, a line is live, the marks are the opened ports, and there are at most 256 lines.
 pub record Holds (start g : Gate) (h : List Heard) : Type 0 where
-  pub live-lines : (p n : ℕ) (b : Block) → Live h p n b → (has (g .lines) (line p n b) ≡ true) ⊎ Opened start h p
-  pub lines-live : (l : Line) → has (g .lines) l ≡ true → Live h (l .port) (l .node) (l .block)
+  pub live-lines : (p n : ℕ) (b : Block) → Live h p n b → (covered (g .lines) (line p n b) ≡ true) ⊎ Opened start h p
+  pub lines-live : (l : Line) → Among l (g .lines) → Live h (l .port) (l .node) (l .block)
   pub opened-marks : (p : ℕ) → Opened start h p → g .marked p ≡ true
   pub marks-opened : (p : ℕ) → g .marked p ≡ true → Opened start h p
   pub few : length (g .lines) ≤ full

@@ -1,4 +1,4 @@
--- What the box does with a message (document 01, "Gateway": "For a message accepted at port q", as document 02, W2, has it; order of refusals 7, 8, then reading).
+-- What the box does with a message (document 01, "Gateway": "For a message accepted at port q", as document 02, W2 and W4, has it; order of refusals 7, 8, then reading).
 use Prim.Native.Nat.{ℕ, _+_}
 use mathlib.Core.Path.{_≡_}
 use mathlib.Core.Logic.{_⊎_}
@@ -7,7 +7,7 @@ use mathlib.Core.List.{List, [], _∷_, _++_}
 use lib.Dec.{eqb, leb, ltb}
 use lib.ListN.{length}
 use Rattle.range.specs.declared.Block.{Block}
-use Rattle.range.specs.Range.{inBlock, sameBlock}
+use Rattle.range.specs.Range.{inBlock, inside}
 use Rattle.message.specs.declared.Message.{Message}
 use Rattle.message.specs.declared.Saying.{Saying}
 use Rattle.message.specs.declared.Saying.the-variants.{Report, Announcement, Restart, Inquiry, InquiryForAll, Learn, Nothing}
@@ -23,25 +23,37 @@ use Rattle.gateway_rules.specs.State.{Gate, full, badPorts, outOfBounds,
 abbrev pub line : ℕ → ℕ → Block → Line
 line port node block = record { port = port; node = node; block = block }
 
-abbrev pub sameLine : Line → Line → Bool
-sameLine a b = eqb (a .port) (b .port) && (eqb (a .node) (b .node) && sameBlock (a .block) (b .block))
+-- One line is inside another, or equal to it: of the same port and node, and its block inside the other's (document 02, W4).
+abbrev pub within : Line → Line → Bool
+within a b = eqb (a .port) (b .port) && (eqb (a .node) (b .node) && inside (a .block) (b .block))
 
--- A line already there.
-abbrev pub has : List Line → Line → Bool
-has lines l = any (sameLine l) lines
+-- The lines that one holds.
+abbrev pub heldBy : Line → Line → Bool
+heldBy l x = within x l
 
--- All lines stand where they stood, and at most one more, of a node at a port, stands behind them.
+-- A line is inside one of those there.
+abbrev pub covered : List Line → Line → Bool
+covered lines l = any (within l) lines
+
+-- A line holds some of those there.
+abbrev pub holdsSome : List Line → Line → Bool
+holdsSome lines l = any (heldBy l) lines
+
+-- No line is inside another.
+unfoldable pub unnested : List Line → Bool
+unnested [] = true
+unnested (l ∷ lines) = not (covered lines l || holdsSome lines l) && unnested lines
+
+-- The lines stay as they were, or one of a node at a port stands behind those that it does not hold.
 abbrev pub Gained : ℕ → ℕ → List Line → List Line → Type 0
-Gained port node lines later = (later ≡ lines) ⊎ ((b : Block) × (later ≡ lines ++ (line port node b ∷ [])))
+Gained port node lines later = (later ≡ lines) ⊎ ((b : Block) × (later ≡ without (heldBy (line port node b)) lines ++ (line port node b ∷ [])))
 
--- Lines that are all different.
-unfoldable pub distinct : List Line → Bool
-distinct [] = true
-distinct (l ∷ lines) = not (has lines l) && distinct lines
-
--- The lines of a node, at whichever port.
+-- The lines of a node, at whichever port; those of a port, of whichever node.
 abbrev pub ofNode : ℕ → Line → Bool
 ofNode n l = eqb (l .node) n
+
+abbrev pub atPort : ℕ → Line → Bool
+atPort p l = eqb (l .port) p
 
 -- ---- how a message changes the state
 
@@ -55,9 +67,17 @@ opening g q = record { ports = g .ports; automatic = g .automatic; lines = g .li
 abbrev pub adding : Gate → Line → Gate
 adding g l = withLines g (g .lines ++ (l ∷ []))
 
--- A line already there: no change. Else, under 256 lines: added at the end. Else q becomes open.
+-- Those that it holds go, the others keep their order, and it stands at the end.
+abbrev pub replacing : Gate → Line → Gate
+replacing g l = withLines g (without (heldBy l) (g .lines) ++ (l ∷ []))
+
+-- Under 256 lines: added at the end. Else q becomes open.
+abbrev pub storing : Gate → Line → Gate
+storing g l = cond (ltb (length (g .lines)) full) (adding g l) (opening g (l .port))
+
+-- Inside a line of the same port and node: no change. Else one that holds such lines replaces them, a full table or not (document 02, W4). Else as above.
 unfoldable pub announce : Gate → Line → Gate
-announce g l = cond (has (g .lines) l) g (cond (ltb (length (g .lines)) full) (adding g l) (opening g (l .port)))
+announce g l = cond (covered (g .lines) l) g (cond (holdsSome (g .lines) l) (replacing g l) (storing g l))
 
 -- Initialization Complete removes the source's lines at every port (document 02, W2), the rest keeping their order. An open mark stays.
 abbrev pub restart : Gate → ℕ → Gate

@@ -12,11 +12,11 @@ use lib.Pow.{pow-pos}
 use Rattle.basics.proofs.Bools.{both, same-truth}
 use Rattle.range.specs.declared.Block.{Block}
 use Rattle.numbers.specs.Bits.{bit}
-use Rattle.range.specs.Range.{run, isBlock, inBlock, last, single, blockOf, hasNumber, numberOf, sameBlock}
+use Rattle.range.specs.Range.{run, isBlock, inBlock, last, single, blockOf, hasNumber, numberOf}
 use Rattle.range.specs.declared.Answer.{Answer}
 use Rattle.range.specs.declared.RangeNumber.{RangeNumber}
 use Rattle.basics.specs.Refusals.{Told, told, refused}
-use Rattle.range.specs.Answer.{yesOrNo, rangeNumber, numberTold, holdsTold, sameTold}
+use Rattle.range.specs.Answer.{yesOrNo, rangeNumber, numberTold, holdsTold}
 use Rattle.range.proofs.Runs.{run-of, zeros-divide}
 
 -- ---- what a block is
@@ -89,17 +89,6 @@ in-block-above b e v =
     (λ t. eq-eqb _ _ (ap (λ (x : ℕ). x * 2 ^ b .k) (eqb-true _ _ t) ∙ block-start b v))
     (λ t. eq-eqb _ _ (eq-of-mul-eq-mul-right (2 ^ b .k) (pow-pos (b .k)) _ _ (eqb-true _ _ t ∙ sym (block-start b v))))
 
-pub same-block : (a b : Block) → (sameBlock a b ≡ true) ↔ (a ≡ b)
-unfolding sameBlock
-same-block a b = (
-  λ t.
-      let h = both (eqb (a .start) (b .start)) (eqb (a .k) (b .k)) t in
-      let s = eqb-true (a .start) (b .start) (h .0) in
-      let k = eqb-true (a .k) (b .k) (h .1) in
-      λ i. record { start = s i; k = k i },
-  λ e. rw (eq-eqb (a .start) (b .start) (ap (λ (x : Block). x .start) e), eq-eqb (a .k) (b .k) (ap (λ (x : Block). x .k) e)),
-)
-
 -- ---- what the code tests
 
 -- Counting the zeros of its start tests a block.
@@ -120,14 +109,6 @@ holds-told b e v = rw v
 pub holds-refused : (b : Block) (e : ℕ) → isBlock b ≡ false → holdsTold b e ≡ refused 14 false
 unfolding holdsTold
 holds-refused b e v = rw v
-
-pub same-told : (a b : Block) → isBlock a ≡ true → isBlock b ≡ true → sameTold a b ≡ told (sameBlock a b)
-unfolding sameTold
-same-told a b v w = rw (v, w)
-
-pub same-refused : (a b : Block) → (isBlock a && isBlock b) ≡ false → sameTold a b ≡ refused 14 false
-unfolding sameTold
-same-refused a b v = rw v
 
 pub number-told : (b : Block) → (b .k ≡ 0 → ⊥) → isBlock b ≡ true → numberTold b ≡ told (numberOf b)
 unfolding numberTold hasNumber
@@ -167,13 +148,6 @@ number-whole b h k v =
     let low : b .start % 2 ^ 64 ≡ 0 = rw k at (block-parts b v .1) in
     let zero-start : b .start ≡ 0 = sym (mod-eq-of-lt h) ∙ low in
     number-ones b (ap₂ bit k zero-start) ∙ ap₂ (λ (s i : ℕ). s + (2 ^ i - 1)) zero-start k
-
-pub same-differ : (a b : Block) → (a ≡ b → ⊥) → sameBlock a b ≡ false
-same-differ a b h = go (sameBlock a b) refl
-  where
-    go : (t : Bool) → sameBlock a b ≡ t → sameBlock a b ≡ false
-    go true e = absurd (h (same-block a b .0 e))
-    go false e = e
 
 -- ---- what the code's answers say
 

@@ -6,3 +6,4 @@ pub mod Members
 pub mod RoundTrips
 pub mod Refusals
 pub mod Nested
+pub mod Comparing

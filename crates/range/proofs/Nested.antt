@@ -17,7 +17,7 @@ prefix-above s e j k h q =
     let more : j + (k - j) ≡ k = omega arith in
     rw (← more) (sym (shr-shr e j (k - j)) ∙ ap (λ (x : ℕ). x / 2 ^ (k - j)) q ∙ shr-shr s j (k - j))
 
-inside-or-apart : (a b : Block) → isBlock a ≡ true → isBlock b ≡ true → a .k ≤ b .k → Inside a b ⊎ Apart a b
+pub inside-or-apart : (a b : Block) → isBlock a ≡ true → isBlock b ≡ true → a .k ≤ b .k → Inside a b ⊎ Apart a b
 inside-or-apart a b v w h = go (eqb (a .start / 2 ^ b .k) (b .start / 2 ^ b .k)) refl
   where
     above : (e : ℕ) → inBlock a e ≡ true → e / 2 ^ b .k ≡ a .start / 2 ^ b .k

@@ -7,13 +7,13 @@ use native.Mathlib.Omega.{arith}
 use borrow.Author.Tests.{not-false, eqb-true, eqb-false, eq-eqb, ne-eqb, leb-false, lt-leb}
 use lib.Dec.{leb, eqb}
 use Rattle.range.specs.declared.Block.{Block}
-use Rattle.range.specs.Range.{isBlock, inBlock, hasNumber, numberOf, sameBlock}
+use Rattle.range.specs.Range.{isBlock, inBlock, hasNumber, numberOf}
 use Rattle.range.specs.declared.Answer.{Answer}
 use Rattle.range.specs.declared.Answer.the-variants.{Yes, No, NoBlock}
 use Rattle.range.specs.declared.RangeNumber.{RangeNumber}
 use Rattle.range.specs.declared.RangeNumber.the-variants.{Number, NoNumber}
 use Rattle.basics.specs.Refusals.{Told, told, refused}
-use Rattle.range.specs.Answer.{yesOrNo, rangeNumber, numberTold, holdsTold, sameTold, Barred, Unnumbered}
+use Rattle.range.specs.Answer.{yesOrNo, rangeNumber, numberTold, holdsTold, Barred, Unnumbered}
 
 -- A test that is not passed is answered by 14, and nothing else is.
 given-when : {A : Type 0} (t : Bool) (x none : A) → (cond t (told x) (refused 14 none) .refusal ≡ 14) ↔ (t ≡ false)
@@ -21,7 +21,7 @@ given-when true x none = (λ e. let z : ⊥ = omega (arith, e) in absurd z, λ e
 given-when false x none = (λ _. refl, λ _. refl)
 
 -- Two tests are not both passed where the one or the other is not.
-either-fails : (p q : Bool) {A B : Type 0} → (p ≡ false) ↔ A → (q ≡ false) ↔ B → ((p && q) ≡ false) ↔ (A ⊎ B)
+pub either-fails : (p q : Bool) {A B : Type 0} → (p ≡ false) ↔ A → (q ≡ false) ↔ B → ((p && q) ≡ false) ↔ (A ⊎ B)
 either-fails true q f g = (λ e. inr (g .0 e), ⊎-elim (λ a. absurd (true≢false (f .1 a))) (g .1))
 either-fails false q f g = (λ _. inl (f .0 refl), λ _. refl)
 
@@ -41,10 +41,6 @@ number-14 b =
 pub holds-14 : (b : Block) (e : ℕ) → (holdsTold b e .refusal ≡ 14) ↔ Barred b
 unfolding holdsTold
 holds-14 b e = Iff·trans (given-when (isBlock b) (inBlock b e) false) (barred-exactly b)
-
-pub same-14 : (a b : Block) → (sameTold a b .refusal ≡ 14) ↔ (Barred a ⊎ Barred b)
-unfolding sameTold
-same-14 a b = Iff·trans (given-when (isBlock a && isBlock b) (sameBlock a b) false) (either-fails (isBlock a) (isBlock b) (barred-exactly a) (barred-exactly b))
 
 -- What an answer tells decides it: a promise of what is told allows one answer only.
 unfoldable answerOf : Told Bool → Answer

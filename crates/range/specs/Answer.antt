@@ -2,14 +2,14 @@
 use Prim.Native.Nat.{ℕ, _%_, _^_, _<_}
 use mathlib.Core.Path.{_≡_}
 use mathlib.Core.Logic.{_⊎_}
-use mathlib.Core.Bool.{Bool, true, false, cond, _&&_}
+use mathlib.Core.Bool.{Bool, true, false, cond}
 use Rattle.basics.specs.Refusals.{Told, told, refused}
 use Rattle.range.specs.declared.Block.{Block}
 use Rattle.range.specs.declared.Answer.{Answer}
 use Rattle.range.specs.declared.Answer.the-variants.{Yes, No, NoBlock}
 use Rattle.range.specs.declared.RangeNumber.{RangeNumber}
 use Rattle.range.specs.declared.RangeNumber.the-variants.{Number, NoNumber}
-use Rattle.range.specs.Range.{isBlock, inBlock, hasNumber, numberOf, sameBlock}
+use Rattle.range.specs.Range.{isBlock, inBlock, hasNumber, numberOf}
 
 abbrev pub yesOrNo : Answer → Told Bool
 yesOrNo Yes = told true
@@ -26,9 +26,6 @@ numberTold b = cond (hasNumber b) (told (numberOf b)) (refused 14 0)
 
 unfoldable pub holdsTold : Block → ℕ → Told Bool
 holdsTold b e = cond (isBlock b) (told (inBlock b e)) (refused 14 false)
-
-unfoldable pub sameTold : Block → Block → Told Bool
-sameTold a b = cond (isBlock a && isBlock b) (told (sameBlock a b)) (refused 14 false)
 
 -- What document 01 bars: "a block with k above 64 or a start that isn't a multiple of 2^k"; for its number, also k = 0.
 abbrev pub Barred : Block → Type 0

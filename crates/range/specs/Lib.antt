@@ -1,3 +1,4 @@
 pub mod Range
 pub mod Answer
+pub mod Comparing
 pub mod Marked

@@ -52,9 +52,9 @@ hasNumber b = not (eqb (b .k) 0) && isBlock b
 unfoldable pub numberOf : Block → ℕ
 numberOf b = cond (eqb (bit (b .k) (b .start)) 0) (last b) (b .start)
 
--- Whether two blocks are equal.
-unfoldable pub sameBlock : Block → Block → Bool
-sameBlock a b = eqb (a .start) (b .start) && eqb (a .k) (b .k)
+-- Whether one block is inside another, or equal to it: it begins no earlier and ends no later.
+unfoldable pub inside : Block → Block → Bool
+inside a b = leb (b .start) (a .start) && leb (last a) (last b)
 
 -- Every event of the first is one of the second's; no event is one of both.
 abbrev pub Inside : Block → Block → Type 0

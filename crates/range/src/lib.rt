@@ -1,8 +1,10 @@
 // Event ID ranges (001 section 4): blocks, range numbers and what they hold.
 ghost use mathlib.Core.Path.{_≡_};
 ghost use Prim.Native.Nat.{_-_, _*_, _/_, _^_, _≤_};
-ghost use Rattle.range.specs.Range.{run as runOf, isBlock, blockOf, single as singleOf};
-ghost use Rattle.range.specs.Answer.{yesOrNo, rangeNumber, numberTold, holdsTold, sameTold};
+ghost use mathlib.Core.Bool.{true};
+ghost use Rattle.range.specs.Range.{run as runOf, isBlock, inside as insideOf, blockOf, single as singleOf};
+ghost use Rattle.range.specs.Answer.{yesOrNo, rangeNumber, numberTold, holdsTold};
+ghost use Rattle.range.specs.Comparing.{comparison};
 
 // The house default for the automatic block's range number.
 pub const HOUSE: u64 = 0x0100_0000_0000_FFFF;
@@ -20,6 +22,15 @@ pub struct Block {
 pub enum Answer {
     Yes,
     No,
+    NoBlock,
+}
+
+// NoBlock is refusal 14.
+pub enum Comparison {
+    Equal,
+    FirstInside,
+    SecondInside,
+    Apart,
     NoBlock,
 }
 
@@ -98,36 +109,41 @@ pub fn holds(b: Block, e: u64) -> Answer
     }
 }
 
-// Whether two blocks are equal. What is not equal is tested last, so that whoever only asks for a yes pays for no test.
-pub fn same(a: Block, b: Block) -> Answer
-    ensures { λ r. ⌜ yesOrNo r ≡ sameTold a b ⌝ }
+// How two blocks lie to each other.
+pub fn compare(a: Block, b: Block) -> Comparison
+    ensures { λ r. ⌜ r ≡ comparison a b ⌝ }
 {
-    if a.start != b.start {
-        return unlike(a, b);
+    if !is_block(a) {
+        return Comparison::NoBlock;
     }
-    if a.k != b.k {
-        return unlike(a, b);
+    if !is_block(b) {
+        return Comparison::NoBlock;
     }
-    if is_block(a) {
-        Answer::Yes
+    if inside(a, b) {
+        return if inside(b, a) {
+            Comparison::Equal
+        } else {
+            Comparison::FirstInside
+        };
+    }
+    if inside(b, a) {
+        Comparison::SecondInside
     } else {
-        Answer::NoBlock
+        Comparison::Apart
     }
 }
 
-// The answer for two that differ.
-fn unlike(a: Block, b: Block) -> Answer
-    requires { ⌜ (a ≡ b → ⊥) ⌝ }
-    ensures { λ r. ⌜ yesOrNo r ≡ sameTold a b ⌝ }
+// Whether one block is inside another, or equal to it: it is no larger, and its start is one of the other's numbers.
+fn inside(a: Block, b: Block) -> bool
+    requires { ⌜ (isBlock a ≡ true) × (isBlock b ≡ true) ⌝ }
+    ensures { λ yes. ⌜ yes ≡ insideOf a b ⌝ }
 {
-    if !is_block(a) {
-        return Answer::NoBlock;
+    let k = b.k;
+    let start = b.start;
+    if a.k > k {
+        return false;
     }
-    if is_block(b) {
-        Answer::No
-    } else {
-        Answer::NoBlock
-    }
+    prefix(a.start, k) == start
 }
 
 // How many of the lowest bits are equal to the lowest one.

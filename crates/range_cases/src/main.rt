@@ -2,6 +2,7 @@
 use libc::STDOUT_FILENO;
 use range::Answer;
 use range::Block;
+use range::Comparison;
 use range::RangeNumber;
 
 fn main() {
@@ -13,7 +14,7 @@ fn main() {
     starts();
     edges();
     single_events();
-    equal_blocks();
+    compared_blocks();
 }
 
 // 004 section 2.4's table, read by 001: 2 and 5 are misprinted there.
@@ -117,13 +118,36 @@ fn single_events() {
     holds(0x5, 0, 0x6);
 }
 
-fn equal_blocks() {
-    same(0x4, 2, 0x4, 2);
-    same(0x4, 2, 0x4, 1);
-    same(0x4, 2, 0x8, 2);
-    same(0x2, 2, 0x4, 2);
-    same(0x4, 2, 0x2, 2);
-    same(0x0, 65, 0x0, 65);
+// Each answer, both sides of every edge, k = 0, 63 and 64, and what is no block, first and second.
+fn compared_blocks() {
+    compare(0x4, 2, 0x4, 2);
+    compare(0x4, 2, 0x4, 1);
+    compare(0x4, 1, 0x4, 2);
+    compare(0x6, 1, 0x4, 2);
+    compare(0x4, 2, 0x6, 1);
+    compare(0x4, 2, 0x8, 2);
+    compare(0x3, 0, 0x4, 2);
+    compare(0x4, 0, 0x4, 2);
+    compare(0x7, 0, 0x4, 2);
+    compare(0x8, 0, 0x4, 2);
+    compare(0x10, 4, 0x0, 8);
+    compare(0x100, 4, 0x0, 8);
+    compare(0x5, 0, 0x5, 0);
+    compare(0x5, 0, 0x4, 0);
+    compare(0x0, 64, 0x0, 64);
+    compare(0x0, 64, 0x8000000000000000, 63);
+    compare(0xFFFFFFFFFFFFFFFF, 0, 0x0, 64);
+    compare(0x0, 63, 0x8000000000000000, 63);
+    compare(0x0, 63, 0x0, 64);
+    compare(0x7FFFFFFFFFFFFFFF, 0, 0x0, 63);
+    compare(0x8000000000000000, 0, 0x0, 63);
+    compare(0x2, 2, 0x4, 2);
+    compare(0x4, 2, 0x2, 2);
+    compare(0x2, 2, 0x2, 2);
+    compare(0x0, 65, 0x0, 65);
+    compare(0x0, 64, 0x0, 65);
+    compare(0x0, 255, 0x0, 0);
+    compare(0x1, 64, 0x0, 64);
 }
 
 fn block_of(r: u64) {
@@ -176,17 +200,23 @@ fn holds(start: u64, k: u8, e: u64) {
     answer(range::holds(b, e));
 }
 
-fn same(start: u64, k: u8, other_start: u64, other_k: u8) {
+fn compare(start: u64, k: u8, other_start: u64, other_k: u8) {
     let a = Block { start, k };
     let b = Block {
         start: other_start,
         k: other_k,
     };
-    text(b"same ");
+    text(b"compare ");
     block(a);
     text(b", ");
     block(b);
-    answer(range::same(a, b));
+    match range::compare(a, b) {
+        Comparison::Equal => text(b": equal\n"),
+        Comparison::FirstInside => text(b": first inside second\n"),
+        Comparison::SecondInside => text(b": second inside first\n"),
+        Comparison::Apart => text(b": apart\n"),
+        Comparison::NoBlock => text(b": refused 14\n"),
+    }
 }
 
 fn answer(a: Answer) {
