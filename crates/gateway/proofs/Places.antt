@@ -31,6 +31,13 @@ any-more test n at =
     ∙ any-append test (each n at) (at n ∷ [])
     ∙ ap (λ (t : Bool). any test (each n at) || t) (or-false (test (at n)))
 
+-- One more that does not pass, and one that does.
+pub not-more : (test : Line → Bool) (n : ℕ) (at : ℕ → Line) → test (at n) ≡ false → any test (each (n + 1) at) ≡ any test (each n at)
+not-more test n at e = any-more test n at ∙ ap (λ (t : Bool). any test (each n at) || t) e ∙ or-false (any test (each n at))
+
+pub now-more : (test : Line → Bool) (n : ℕ) (at : ℕ → Line) → test (at n) ≡ true → any test (each (n + 1) at) ≡ true
+now-more test n at e = any-more test n at ∙ ap (λ (t : Bool). any test (each n at) || t) e ∙ or-true (any test (each n at))
+
 without-more : (test : Line → Bool) (n : ℕ) (at : ℕ → Line)
     → without test (each (n + 1) at) ≡ without test (each n at) ++ cond (test (at n)) [] (at n ∷ [])
 without-more test n at = ap (without test) (one-more n at) ∙ without-append test (each n at) (at n ∷ [])

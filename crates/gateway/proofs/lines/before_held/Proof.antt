@@ -1,0 +1,66 @@
+-- None of the lines before place i is held.
+use Prim.Native.Nat.{_-_, _≤_}
+use mathlib.Core.Path.{_≡_, ap, _∙_}
+use mathlib.Core.Bool.{false}
+use native.Mathlib.Omega.{arith}
+use Rattle.basics.specs.Lists.{any}
+use Rattle.gateway.specs.State.{lists, lineAt, linesIn, held}
+use Rattle.gateway_rules.specs.Step.{heldBy, holdsSome}
+use Rattle.gateway.proofs.Places.{not-more, block-at, no-places, line-tells}
+use Rattle.gateway.proofs.lines.before_held.Statement.{statement}
+use Rattle.gateway.proofs.lines.before_held.Tie as tie
+
+abbrev Inv-loop : tie.InvT-loop
+Inv-loop count nodes starts ports sizes l i₀ i = (i ≤ count) × (holdsSome (linesIn i (lists nodes starts ports sizes)) l ≡ false)
+
+abbrev μ-loop : tie.MeasureT-loop
+μ-loop count nodes starts ports sizes l i₀ i = count - i
+
+loop-holds : tie.Need-loop-holds Inv-loop μ-loop
+loop-holds c =
+    let a = c .before .before .before .before .args in
+    let t = held (a .nodes) (a .starts) (a .ports) (a .sizes) in
+    (omega arith, ap (any (heldBy (a .l))) (no-places (lineAt t)))
+
+line-at-requires : tie.Need-line-at-requires Inv-loop μ-loop
+line-at-requires c κs = (c .before .before .before .before .before .before .pre .1 .0, omega arith)
+
+within-requires : tie.Need-within-requires Inv-loop μ-loop
+within-requires c κs =
+    let a = c .before .before .before .before .before .before .before .args in
+    let t = held (a .nodes) (a .starts) (a .ports) (a .sizes) in
+    (block-at (a .count) t (c .before .before .loop .i) (c .before .before .before .before .before .before .before .pre .1 .1 .1) (omega arith) (c .line-at .ensures), c .before .before .before .before .before .before .before .pre .1 .1 .0)
+
+returns : tie.Need-returns Inv-loop μ-loop
+returns c = c .before .before .before .before .loop .inv
+
+add-i : tie.Need-add-i Inv-loop μ-loop
+add-i c = omega arith
+
+loop-less : tie.Need-loop-less Inv-loop μ-loop
+loop-less c = omega arith
+
+loop-again : tie.Need-loop-again Inv-loop μ-loop
+loop-again c =
+    let a = c .before .before .before .before .before .before .before .before .before .args in
+    let t = held (a .nodes) (a .starts) (a .ports) (a .sizes) in
+    let free = line-tells (heldBy (a .l)) (lineAt t (c .before .before .before .before .loop .i)) (c .before .before .line-at .ensures) (c .before .within .ensures) (c .if1 .left) in
+    (omega arith, not-more (heldBy (a .l)) (c .before .before .before .before .loop .i) (lineAt t) free ∙ c .before .before .before .before .loop .inv .1)
+
+returns-2 : tie.Need-returns-2 Inv-loop μ-loop
+returns-2 c = c .before .loop .inv
+
+pub before-held-spec : {M : Type 1} → statement M
+before-held-spec =
+    tie.close
+    (tie.spec
+    Inv-loop
+    μ-loop
+    loop-holds
+    line-at-requires
+    within-requires
+    returns
+    add-i
+    loop-less
+    loop-again
+    returns-2)

@@ -1,0 +1,116 @@
+-- What stays of the lines before place i stands at the first j places, from the first that goes on.
+use Prim.Native.Nat.{ℕ, _-_, _≤_, _<_}
+use mathlib.Core.Path.{_≡_, sym, ap, _∙_}
+use native.Mathlib.Nat.{le-refl}
+use native.Mathlib.Omega.{arith}
+use borrow.Author.Needs.{needs}
+use Rattle.gateway.specs.State.{lists, linesIn, held}
+use Rattle.gateway_rules.specs.Step.{heldBy}
+use Rattle.basics.specs.Lists.{without}
+use Rattle.gateway.proofs.Places.{block-at}
+use Rattle.gateway.proofs.Kept.{Kept, none-gone, passed-over, kept-here}
+use Rattle.gateway.proofs.lines.without_held.Statement.{statement}
+use Rattle.gateway.proofs.lines.without_held.Tie as tie
+
+abbrev Inv-loop : tie.InvT-loop
+Inv-loop count nodes₀ starts₀ ports₀ sizes₀ l first i₀ j₀ nodes starts ports sizes i j =
+    (i ≤ count) × (j ≤ i) × Kept (heldBy l) (lists nodes₀ starts₀ ports₀ sizes₀) (lists nodes starts ports sizes) i j
+
+abbrev μ-loop : tie.MeasureT-loop
+μ-loop count nodes₀ starts₀ ports₀ sizes₀ l first i₀ j₀ nodes starts ports sizes i j = count - i
+
+before-held-requires : tie.Need-before-held-requires Inv-loop μ-loop
+before-held-requires c κs = c .before .before .before .before .before .before .before .before .pre
+
+loop-holds : tie.Need-loop-holds Inv-loop μ-loop
+loop-holds c =
+    let a = c .before .before .before .before .before .before .before .before .before .args in
+    let t = held (a .nodes) (a .starts) (a .ports) (a .sizes) in
+    let none = c .before-held .ensures in
+    (none .0, omega arith, none-gone (heldBy (a .l)) t (c .before-held .result) (c .before .before .before .before .before .before .before .before .before .pre .1 .0) (none .1))
+
+line-at-requires : tie.Need-line-at-requires Inv-loop μ-loop
+line-at-requires c κs = (c .before .before .before .before .before .loop .inv .2 .whole, omega arith)
+
+add-i : tie.Need-add-i Inv-loop μ-loop
+add-i c = omega arith
+
+within-requires : tie.Need-within-requires Inv-loop μ-loop
+within-requires c κs =
+    let a = c .before .before .before .before .before .before .before .before .before .before .before .before .before .before .before .before .args in
+    let t = held (a .nodes) (a .starts) (a .ports) (a .sizes) in
+    let s = c .before .before .before .before .before .before .loop in
+    let here = c .line-at .ensures ∙ s .inv .2 .rest (s .i) (le-refl (s .i)) in
+    (block-at (a .count) t (s .i) (c .before .before .before .before .before .before .before .before .before .before .before .before .before .before .before .before .pre .1 .1 .1) (omega arith) here, c .before .before .before .before .before .before .before .before .before .before .before .before .before .before .before .before .pre .1 .1 .0)
+
+loop-less : tie.Need-loop-less Inv-loop μ-loop
+loop-less c = omega arith
+
+loop-again : tie.Need-loop-again Inv-loop μ-loop
+loop-again c =
+    let a = c .before .before .before .before .before .before .before .before .before .before .before .before .before .before .before .before .before .before .args in
+    let t = held (a .nodes) (a .starts) (a .ports) (a .sizes) in
+    let s = c .before .before .before .before .before .before .before .before .loop in
+    let there = lists (s .nodes) (s .starts) (s .ports) (s .sizes) in
+    (omega arith, omega arith, passed-over (heldBy (a .l)) t there (s .i) (s .j) (c .before .before .line-at .result) (s .inv .2) (c .before .before .line-at .ensures) (sym (c .before .within .ensures) ∙ c .if1 .taken))
+
+put-line-requires : tie.Need-put-line-requires Inv-loop μ-loop
+put-line-requires c κs = (c .before .before .before .before .before .before .before .before .before .before .before .before .loop .inv .2 .whole, omega arith)
+
+add-j : tie.Need-add-j Inv-loop μ-loop
+add-j c = omega (arith, c .before .before .before .before .before .before .before .before .before .before .before .before .before .before .before .before .before .before .before .before .before .loop .inv .1, c .before .before .before .before .before .before .before .before .before .before .before .before .before .before .before .before .before .before .before .before .loop-test .taken, c .before .before .before .before .before .before .before .before .before .before .before .before .before .before .before .before .before .before .before .before .before .before .before .before .before .before .before .before .before .before .before .pre .0)
+
+loop-less-2 : tie.Need-loop-less-2 Inv-loop μ-loop
+loop-less-2 c = omega arith
+
+loop-again-2 : tie.Need-loop-again-2 Inv-loop μ-loop
+loop-again-2 c =
+    let a = c .before .before .before .before .before .before .before .before .before .before .before .before .before .before .before .before .before .before .before .before .before .before .before .before .before .before .before .before .before .before .before .args in
+    let t = held (a .nodes) (a .starts) (a .ports) (a .sizes) in
+    let s = c .before .before .before .before .before .before .before .before .before .before .before .before .before .before .before .before .before .before .before .before .before .loop in
+    let there = lists (s .nodes) (s .starts) (s .ports) (s .sizes) in
+    let room : s .i < 256 = omega (arith, c .before .before .before .before .before .before .before .before .before .before .before .before .before .before .before .before .before .before .before .before .loop-test .taken, c .before .before .before .before .before .before .before .before .before .before .before .before .before .before .before .before .before .before .before .before .before .before .before .before .before .before .before .before .before .before .before .pre .0) in
+    (omega arith, omega arith, kept-here (heldBy (a .l)) t there (s .i) (s .j) (c .before .before .before .before .before .before .before .before .before .before .before .before .before .before .before .line-at .result) (s .inv .2) (c .before .before .before .before .before .before .before .before .before .before .before .before .before .before .before .line-at .ensures) _ (sym (c .before .before .before .before .before .before .before .before .before .before .before .before .before .before .within .ensures) ∙ c .before .before .before .before .before .before .before .before .before .before .before .before .before .if1 .left) (s .inv .1) room (c .before .before .before .before .before .before .before .before .put-line .ensures))
+
+same-length : tie.Need-same-length Inv-loop μ-loop
+same-length c = c .before .loop .inv .2 .whole .0 ∙ sym (c .before .before .before .before .before .before .before .before .before .before .before .pre .1 .0 .0)
+
+same-length-2 : tie.Need-same-length-2 Inv-loop μ-loop
+same-length-2 c = c .before .loop .inv .2 .whole .1 ∙ sym (c .before .before .before .before .before .before .before .before .before .before .before .pre .1 .0 .1)
+
+same-length-3 : tie.Need-same-length-3 Inv-loop μ-loop
+same-length-3 c = c .before .loop .inv .2 .whole .2 ∙ sym (c .before .before .before .before .before .before .before .before .before .before .before .pre .1 .0 .2)
+
+same-length-4 : tie.Need-same-length-4 Inv-loop μ-loop
+same-length-4 c = c .before .loop .inv .2 .whole .3 ∙ sym (c .before .before .before .before .before .before .before .before .before .before .before .pre .1 .0 .3)
+
+returns : tie.Need-returns Inv-loop μ-loop
+returns c =
+    let a = c .before .before .before .before .before .before .before .before .before .before .before .args in
+    let t = held (a .nodes) (a .starts) (a .ports) (a .sizes) in
+    let s = c .before .loop in
+    let all : s .i ≡ a .count = omega arith in
+    s .inv .2 .stay ∙ ap (λ (k : ℕ). without (heldBy (a .l)) (linesIn k t)) all
+
+pub without-held-spec : {M : Type 1} → statement M
+without-held-spec =
+    tie.close
+    (tie.spec
+    Inv-loop
+    μ-loop
+    before-held-requires
+    loop-holds
+    line-at-requires
+    add-i
+    within-requires
+    loop-less
+    loop-again
+    put-line-requires
+    add-j
+    loop-less-2
+    loop-again-2
+    same-length
+    same-length-2
+    same-length-3
+    same-length-4
+    returns)
