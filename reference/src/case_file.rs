@@ -87,7 +87,7 @@ fn digit_of(digit: char) -> Option<u8> {
 /// The bytes written out, two digits each (CASE-FILES).
 fn message_of(text: &str) -> Option<Vec<u8>> {
     let digits: Vec<char> = text.chars().filter(|digit| *digit != ' ').collect();
-    if digits.len() % 2 != 0 || digits.len() > 2 * MOST_MESSAGE {
+    if !digits.len().is_multiple_of(2) || digits.len() > 2 * MOST_MESSAGE {
         return None;
     }
     let mut message = Vec::new();
@@ -101,7 +101,7 @@ fn message_of(text: &str) -> Option<Vec<u8>> {
 pub fn places(most: u64, first: u64, last: u64, stride: u64) -> Vec<usize> {
     let mut taken = Vec::new();
     for place in first..=last.min(most - 1) {
-        if stride != 0 && (place - first) % stride == 0 {
+        if stride != 0 && (place - first).is_multiple_of(stride) {
             taken.push(place as usize);
         }
     }

@@ -3,7 +3,7 @@
 use std::collections::BTreeSet;
 
 use crate::message::{self, Message};
-use crate::range;
+use crate::range::{self, Comparison};
 use crate::refusal;
 
 /// The most lines of the table (01-scope, Gateway).
@@ -16,6 +16,27 @@ pub struct Line {
     pub node: u64,
     pub start: u64,
     pub k: u32,
+}
+
+impl Line {
+    /// How the line's block lies to that of another line of the same port and node, nothing where the other is of another port or node (02, W4).
+    pub fn against(&self, other: &Line) -> Option<Comparison> {
+        if (self.port, self.node) != (other.port, other.node) {
+            return None;
+        }
+        range::compare((self.start, self.k), (other.start, other.k)).ok()
+    }
+
+    /// Whether another line of the same port and node is equal to it or holds it (02, W4, "inside a line of the same port and node").
+    pub fn is_covered_by(&self, other: &Line) -> bool {
+        let lies = self.against(other);
+        lies == Some(Comparison::Equal) || lies == Some(Comparison::FirstInside)
+    }
+
+    /// Whether it holds another line of the same port and node, which is not equal to it (02, W4, "one that holds such lines").
+    pub fn is_over(&self, other: &Line) -> bool {
+        self.against(other) == Some(Comparison::SecondInside)
+    }
 }
 
 /// The state: port count, automatic block, table, open marks (01-scope, Gateway).
@@ -148,11 +169,13 @@ impl Gateway {
         false
     }
 
-    /// Takes an announcement into the table (01-scope, Gateway, second point).
+    /// Takes an announcement into the table (01-scope, Gateway, second point, with 02, W4): what is covered changes nothing; the lines that it holds go, the
+    /// rest keeping their order, and it stands at the end; the port becomes open where the table is full and no line went.
     fn announce(&mut self, line: Line) {
-        if self.lines.contains(&line) {
+        if self.lines.iter().any(|other| line.is_covered_by(other)) {
             return;
         }
+        self.lines.retain(|other| !line.is_over(other));
         if self.lines.len() < MOST_LINES {
             self.lines.push(line);
             return;
@@ -185,7 +208,9 @@ pub fn holds(block: (u64, u32), event: u64) -> bool {
 
 #[cfg(test)]
 mod tests {
+    mod covers;
     mod moves;
+    mod sets;
 
     use super::*;
     use crate::message::{has_destination, has_event, node_id_bytes};
@@ -385,11 +410,12 @@ mod tests {
         }
     }
 
-    /// 00-order, demand 3 with 02, W2, and 01-scope, Gateway: live taken from the accepted messages alone.
+    /// 00-order, demand 3 with 02, W2 and W4, and 01-scope, Gateway: live taken from the accepted messages alone; from a start no line of a port and node lies
+    /// inside another.
     #[test]
     fn demand_three() {
         let mut dice = Dice(88172645463325252);
-        let (mut openings, mut moves) = (0, 0);
+        let (mut openings, mut moves, mut replaced) = (0, 0, 0);
         for _ in 0..30 {
             let mut gateway = gateway(4);
             let mut accepted: Vec<(u32, Vec<u8>)> = Vec::new();
@@ -436,10 +462,13 @@ mod tests {
                         start,
                         k,
                     };
-                    if !before.lines.contains(&line) && before.lines.len() == 256 {
+                    let near = |other: &Line| line.is_covered_by(other) || line.is_over(other);
+                    let new = !before.lines.iter().any(near);
+                    if new && before.lines.len() == 256 {
                         opened.insert(port);
                         openings += 1;
                     }
+                    replaced += u32::from(before.lines.iter().any(|other| line.is_over(other)));
                 }
                 assert_eq!(gateway.open, opened);
                 if message::is_initialization_complete(&read) {
@@ -448,11 +477,9 @@ mod tests {
                 }
                 accepted.push((port, bytes));
             }
-            for (place, line) in gateway.lines.iter().enumerate() {
-                assert!(!gateway.lines[..place].contains(line));
-            }
+            assert!(covers::is_tidy(&gateway));
         }
-        assert!(openings > 0 && moves > 30);
+        assert!(openings > 0 && moves > 30 && replaced > 30);
     }
 
     /// Whether an announcement at the port is live for the event, from the messages alone (00-order, demand 3; 02, W2, "at any port").

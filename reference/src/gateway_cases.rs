@@ -299,6 +299,22 @@ mod tests {
         assert!(text(&format!("{laid}{restarted}")).ends_with(expected));
     }
 
+    /// 02, W4: an event inside a block is not stored, and a block replaces what it holds, wherever that stands; the given table has a nested line.
+    #[test]
+    fn covered_and_replaced() {
+        let laid = "box 4 0 0100000000000000 10 4\nlines 0 0 1 1 0a0000000007 4 0 0\nlines 1 1 1 2 0a0000000007 4 0 0\nlines 2 2 1 1 0a0000000007 4 1 0\nlines 3 3 1 1 0a0000000008 4 0 0\n";
+        let covered = "at 1: 04c5 0a0000000007 0000000000000005\n";
+        let replacing = "at 1: 04a4 0a0000000007 0000000000000007\n";
+        let expected = "  1011; box 4 0 0100000000000000 10 3
+    0: 2 0a0000000007 0000000000000004 0
+    1: 1 0a0000000008 0000000000000004 0
+    2: 1 0a0000000007 0000000000000000 3
+";
+        let text = text(&format!("{laid}{covered}{replacing}"));
+        assert!(text.contains("  1011; box 4 0 0100000000000000 10 4\n    0: 1 "));
+        assert!(text.ends_with(expected));
+    }
+
     /// 02, W1: each reason as it is printed, the line with its place, node and block, a refusal alone; the state stays.
     #[test]
     fn reasons() {

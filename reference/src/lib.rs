@@ -20,6 +20,7 @@ pub mod lent_board;
 pub mod lent_box;
 pub mod lent_can;
 pub mod lent_message;
+pub mod lent_range;
 pub mod message;
 pub mod node;
 pub mod node_cases;

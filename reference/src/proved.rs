@@ -6,13 +6,7 @@ pub mod can;
 
 pub use crate::lent_box::{Answer, Block, Gateway, Head, LentAnswer, Lists, Reason, PLACES};
 pub use crate::lent_message::{Message, Writing};
-
-#[repr(C)]
-#[derive(Clone, Copy, Debug, PartialEq, Eq)]
-pub struct Number {
-    pub refusal: u8,
-    pub number: u64,
-}
+pub use crate::lent_range::Number;
 
 #[repr(C)]
 #[derive(Clone, Copy, Debug, PartialEq, Eq)]
@@ -31,6 +25,7 @@ mod linked {
     extern "C" {
         pub fn hrislanoth_block_of(number: u64) -> Block;
         pub fn hrislanoth_number_of(block: Block) -> Number;
+        pub fn hrislanoth_compare(first: Block, second: Block) -> Number;
         pub fn hrislanoth_read(bytes: *const u8, length: usize) -> Reading;
         pub fn hrislanoth_write(
             message: Message,
@@ -97,6 +92,10 @@ pub fn block_of(number: u64) -> Block {
 
 pub fn number_of(block: Block) -> Number {
     unsafe { linked::hrislanoth_number_of(block) }
+}
+
+pub fn compare(first: Block, second: Block) -> Number {
+    unsafe { linked::hrislanoth_compare(first, second) }
 }
 
 pub fn read(bytes: &[u8]) -> Reading {

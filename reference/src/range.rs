@@ -59,6 +59,52 @@ pub fn contains(start: u64, k: u32, event: u64) -> Result<bool, u8> {
     Ok(start <= event && event <= end)
 }
 
+/// How two blocks lie to each other (02, W4).
+#[derive(Clone, Copy, Debug, PartialEq, Eq, PartialOrd, Ord)]
+pub enum Comparison {
+    Equal,
+    FirstInside,
+    SecondInside,
+    Apart,
+}
+
+impl Comparison {
+    /// All of them, in the order of their numbers.
+    pub const ALL: [Comparison; 4] = [
+        Comparison::Equal,
+        Comparison::FirstInside,
+        Comparison::SecondInside,
+        Comparison::Apart,
+    ];
+
+    /// Its number, 1 to 4 (02, W4, in the order of its words).
+    pub fn number(self) -> u8 {
+        match self {
+            Comparison::Equal => 1,
+            Comparison::FirstInside => 2,
+            Comparison::SecondInside => 3,
+            Comparison::Apart => 4,
+        }
+    }
+}
+
+/// Compares two blocks, each a start and k; refusal 14 if either is none (02, W4; 01-scope, Refusal numbers). A block is inside another where the other
+/// has its first event and its last, and more.
+pub fn compare(first: (u64, u32), second: (u64, u32)) -> Result<Comparison, u8> {
+    let first = first.0..=last(first.0, first.1)?;
+    let second = second.0..=last(second.0, second.1)?;
+    if first == second {
+        return Ok(Comparison::Equal);
+    }
+    if second.contains(first.start()) && second.contains(first.end()) {
+        return Ok(Comparison::FirstInside);
+    }
+    if first.contains(second.start()) && first.contains(second.end()) {
+        return Ok(Comparison::SecondInside);
+    }
+    Ok(Comparison::Apart)
+}
+
 /// Whether the range number covers the event, by the formula as printed (001 section 4, inRange).
 pub fn in_range(event: u64, number: u64) -> bool {
     let k = run_of_equal_bits(number);
@@ -68,6 +114,8 @@ pub fn in_range(event: u64, number: u64) -> bool {
 
 #[cfg(test)]
 mod tests {
+    mod compared;
+
     use super::*;
 
     /// 01-scope, Ranges, the table marked P: R, first, last.

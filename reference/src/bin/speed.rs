@@ -30,7 +30,8 @@ const NOTES: &str = "proved: the box's call in place on lent lists; by value: th
 checked: the box without proofs, with document 01's test of the whole state first; unchecked: without it. - where there is no such call.
 split-256 and join-256: a report with 256 bytes of payload and a list of 128 pairs, the state by value in all columns, join-256 all 33 frames; unchecked leaves
 out the test of the list.
-announce-new and restart: every call on a fresh copy of the state, the copy counted in, by value the call's own; copy is that copy alone.
+announce-inside: an event inside the last of 64 lines. announce-over-64: a block that holds every other one of 128 lines.
+announce-new, announce-over-64 and restart: every call on a fresh copy of the state, the copy counted in, by value the call's own; copy is that copy alone.
 The ratios are of proved. Output buffers (trial, write) are not cleared between calls.";
 
 fn main() -> ExitCode {

@@ -8,7 +8,9 @@ use super::counts::{self, Column, Columns};
 use super::random::Dice;
 use super::sort::Sort;
 use super::witness::Witness;
-use super::{boards, boxes, calls, can_calls, frames, messages, ranges, trials, verdict};
+use super::{
+    boards, boxes, calls, can_calls, frames, messages, nests, pairs, ranges, trials, verdict,
+};
 
 /// The judge of the archive.
 const JUDGE: Judge = Judge {
@@ -17,7 +19,7 @@ const JUDGE: Judge = Judge {
     amounts: Amounts {
         files: 2_000,
         small: 50_000,
-        frames: 10,
+        times: 10,
     },
     without: &[],
 };
@@ -72,6 +74,8 @@ fn judge(seed: u64, sort: Sort, index: u64, witness: &mut Witness) {
         Sort::Calls => calls::judge(&mut dice, witness, &Archive),
         Sort::Frame => frames::judge(&mut dice, witness, &Archive),
         Sort::Can => can_calls::judge(&mut dice, witness, &Archive),
+        Sort::Pair => pairs::judge(&mut dice, witness, &Archive),
+        Sort::Nest => nests::judge(&mut dice, witness, &Archive),
         Sort::Why | Sort::Explain => unreachable!("these are of the programs alone"),
     }
 }

@@ -7,6 +7,7 @@ use std::fmt::{self, Debug, Formatter};
 use crate::gateway::{self, Line};
 use crate::lent_box::{self, Block, Gateway, Head, LentAnswer, Lists, Reason, PLACES};
 
+use super::covers;
 use super::functions::Function;
 use super::histories::{any_history, history_in, Arrival};
 use super::laid_out::{any_numbers, Layout};
@@ -61,7 +62,7 @@ impl Debug for Lines {
 }
 
 /// The box on both sides, on the proved side once for each of the two calls.
-struct Boxes {
+pub struct Boxes {
     by_value: Gateway,
     in_place: Gateway,
     reference: gateway::Gateway,
@@ -116,6 +117,7 @@ fn judge_layout(dice: &mut Dice, witness: &mut Witness, calls: &impl Calls) {
     let mut world = World::new(dice, 3, events, automatic);
     world.longest_run = dice.pick(&[1, 64]);
     let layout = Layout::in_bounds(dice, &world, automatic);
+    covers::saw_given(&layout.for_reference().lines, witness.column);
     let boxes = Boxes::of_layout(dice, &layout);
     let reports = (0..4).filter_map(|_| layout.report_of_a_line(dice, &world));
     let mut arrivals: Vec<Arrival> = reports.collect();
@@ -160,7 +162,7 @@ fn started(witness: &mut Witness, calls: &impl Calls, ports: u8, number: u64) ->
 }
 
 /// Puts messages and questions to both sides, up to the first difference, and last one message with a list of another length.
-fn follow(
+pub fn follow(
     dice: &mut Dice,
     witness: &mut Witness,
     calls: &impl Calls,
@@ -190,7 +192,7 @@ fn follow(
 
 impl Boxes {
     /// Both sides in a state that is laid out.
-    fn of_layout(dice: &mut Dice, layout: &Layout) -> Boxes {
+    pub fn of_layout(dice: &mut Dice, layout: &Layout) -> Boxes {
         let proved = layout.for_proved(dice);
         Boxes {
             by_value: proved,

@@ -13,21 +13,21 @@ const HELP: &str = include_str!("help.txt");
 #[derive(Clone, Copy, Debug, PartialEq)]
 pub struct Amounts {
     pub files: u64,
-    /// 0 for a judge that has neither messages nor ranges.
+    /// 0 for a judge that has no messages, ranges and pairs of blocks.
     pub small: u64,
-    /// How many frame files, and how many inputs of the CAN side's calls, for each other file.
-    pub frames: u64,
+    /// How many frame files, inputs of the CAN side's calls and histories with nested ranges, for each other file.
+    pub times: u64,
 }
 
 impl Amounts {
     /// How many inputs of a sort.
     pub fn of(self, sort: Sort) -> u64 {
         match sort {
-            Sort::Range | Sort::Message => self.small,
+            Sort::Range | Sort::Message | Sort::Pair => self.small,
             Sort::Box | Sort::Trial | Sort::Board | Sort::Calls | Sort::Why | Sort::Explain => {
                 self.files
             }
-            Sort::Frame | Sort::Can => self.files.saturating_mul(self.frames),
+            Sort::Frame | Sort::Can | Sort::Nest => self.files.saturating_mul(self.times),
         }
     }
 }
@@ -131,7 +131,7 @@ mod tests {
         amounts: Amounts {
             files: 2_000,
             small: 50_000,
-            frames: 10,
+            times: 10,
         },
         without: &[],
     };
@@ -141,7 +141,7 @@ mod tests {
         amounts: Amounts {
             files: 30,
             small: 0,
-            frames: 1,
+            times: 1,
         },
         without: &[],
     };
@@ -160,11 +160,13 @@ mod tests {
         let asked = Amounts {
             files: 3,
             small: 4,
-            frames: 10,
+            times: 10,
         };
         assert_eq!((all.seed, all.amounts), (7, asked));
-        let counts = [Sort::Box, Sort::Message, Sort::Frame, Sort::Can].map(|sort| asked.of(sort));
-        assert_eq!(counts, [3, 4, 30, 30]);
+        let counts = [Sort::Box, Sort::Frame, Sort::Can, Sort::Nest].map(|sort| asked.of(sort));
+        assert_eq!(counts, [3, 30, 30, 30]);
+        let small = [Sort::Message, Sort::Range, Sort::Pair].map(|sort| asked.of(sort));
+        assert_eq!(small, [4; 3]);
         assert_eq!(all.only, Some((Sort::Box, 9)));
         assert!(options(&ALL, "--help").unwrap().help);
         let files = options(&FILES_ONLY, "--only board:9").unwrap();
@@ -174,6 +176,10 @@ mod tests {
             let only = options(&FILES_ONLY, &format!("--only {name}:7")).unwrap();
             assert_eq!(only.only, Some((sort, 7)));
             assert!(options(&ALL, &format!("--only {name}:7")).is_err());
+        }
+        for (name, sort) in [("pair", Sort::Pair), ("nest", Sort::Nest)] {
+            let only = options(&ALL, &format!("--only {name}:7")).unwrap();
+            assert_eq!(only.only, Some((sort, 7)));
         }
         for judge in [&ALL, &FILES_ONLY] {
             let only = options(judge, "--only frame:7").unwrap();
@@ -197,7 +203,13 @@ mod tests {
         ] {
             assert!(options(&ALL, line).is_err(), "{line}");
         }
-        for line in ["--small 4", "--only box:9", "--only can:9"] {
+        for line in [
+            "--small 4",
+            "--only box:9",
+            "--only can:9",
+            "--only pair:9",
+            "--only nest:9",
+        ] {
             assert!(options(&FILES_ONLY, line).is_err(), "{line}");
         }
     }

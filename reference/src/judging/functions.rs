@@ -7,6 +7,7 @@ use super::sort::Sort;
 pub enum Function {
     BlockOf,
     NumberOf,
+    Compare,
     Read,
     Write,
     Start,
@@ -23,9 +24,10 @@ pub enum Function {
 
 impl Function {
     /// All of them, in the order of the table.
-    pub const ALL: [Function; 14] = [
+    pub const ALL: [Function; 15] = [
         Function::BlockOf,
         Function::NumberOf,
+        Function::Compare,
         Function::Read,
         Function::Write,
         Function::Start,
@@ -45,6 +47,7 @@ impl Function {
         match self {
             Function::BlockOf => "block of",
             Function::NumberOf => "number of",
+            Function::Compare => "compare",
             Function::Read => "read",
             Function::Write => "write",
             Function::Start => "start",
@@ -60,11 +63,11 @@ impl Function {
         }
     }
 
-    /// The refusals that can arise, and 0 for none (01-scope, Refusal numbers, order; 02, W1 and W3). Refusal 13 cannot.
+    /// The refusals that can arise, and 0 for none (01-scope, Refusal numbers, order; 02, W1, W3 and W4). Refusal 13 cannot.
     pub fn answers(self) -> &'static [u8] {
         match self {
             Function::BlockOf => &[0],
-            Function::NumberOf => &[0, 14],
+            Function::NumberOf | Function::Compare => &[0, 14],
             Function::Read => &[0, 1, 2, 3, 4, 5],
             Function::Write => &[0, 2, 3, 4, 5, 6],
             Function::Start => &[0, 8],
@@ -84,10 +87,11 @@ impl Function {
     pub fn sorts(self) -> &'static [Sort] {
         match self {
             Function::BlockOf | Function::NumberOf => &[Sort::Range],
+            Function::Compare => &[Sort::Pair],
             Function::Read | Function::Write => &[Sort::Message],
             Function::Start => &[Sort::Box],
-            Function::Receive => &[Sort::Box, Sort::Trial, Sort::Why, Sort::Explain],
-            Function::Why => &[Sort::Box, Sort::Why],
+            Function::Receive => &[Sort::Box, Sort::Trial, Sort::Why, Sort::Explain, Sort::Nest],
+            Function::Why => &[Sort::Box, Sort::Why, Sort::Nest],
             Function::Initialise
             | Function::Announce
             | Function::Produce

@@ -1,9 +1,13 @@
-//! Histories of a box: messages one after the other that fill its table, open its ports, restart and move its nodes and report events.
+//! Histories of a box: messages one after the other that fill its table, open its ports, restart and move its nodes, announce what is covered or holds lines, and
+//! report events.
 
 use crate::gateway::{Gateway, MOST_LINES};
 
+use super::mixes::{Mix, AT_THE_LIMIT, EVEN, FILLING, NESTED, RANGES};
 use super::moves::any_move;
+use super::nests::{any_nested, any_replacing};
 use super::parts::{any_mti, bytes_damaged_at_times, Parts};
+use super::questions::event_of;
 use super::random::Dice;
 use super::witness::Hex;
 use super::world::{Area, World};
@@ -23,63 +27,8 @@ impl Arrival {
     }
 }
 
-/// How often each thing happens, as weights, and how many messages in a hundred are damaged.
-struct Mix {
-    announcement: u64,
-    range: u64,
-    report: u64,
-    restart: u64,
-    /// Some messages at once: a board moves.
-    moving: u64,
-    repetition: u64,
-    other: u64,
-    damaged: u64,
-}
-
-/// Everything at times.
-const EVEN: Mix = Mix {
-    announcement: 25,
-    range: 10,
-    report: 30,
-    restart: 8,
-    moving: 8,
-    repetition: 7,
-    other: 20,
-    damaged: 20,
-};
-/// Mostly announcements, so that the table fills.
-const FILLING: Mix = Mix {
-    announcement: 86,
-    range: 8,
-    report: 3,
-    restart: 0,
-    moving: 0,
-    repetition: 2,
-    other: 1,
-    damaged: 2,
-};
-/// What a full table goes through; a restart takes a node's lines at every port, so that more of them would keep the table from being full again.
-const AT_THE_LIMIT: Mix = Mix {
-    announcement: 70,
-    range: 16,
-    report: 60,
-    restart: 3,
-    moving: 3,
-    repetition: 24,
-    other: 8,
-    damaged: 5,
-};
-/// Ranges and reports at their edges.
-const RANGES: Mix = Mix {
-    announcement: 5,
-    range: 35,
-    report: 50,
-    restart: 3,
-    moving: 4,
-    repetition: 5,
-    other: 2,
-    damaged: 3,
-};
+/// The longest run of a range that holds few of the events that fill a table.
+const SHORT_RUN: usize = 3;
 
 /// A history that is being made.
 struct Maker<'a> {
@@ -93,7 +42,7 @@ struct Maker<'a> {
 /// A history of a box with so many ports, at most 900 messages.
 pub fn any_history(dice: &mut Dice, ports: u8, automatic: Area) -> Vec<Arrival> {
     let start = started(ports, automatic);
-    match dice.weighted(&[50, 15, 15, 20]) {
+    match dice.weighted(&[40, 15, 15, 15, 15]) {
         0 => {
             let world = any_world(dice, automatic, (1, 4), (1, 12));
             history_in(dice, start, world)
@@ -106,9 +55,13 @@ pub fn any_history(dice: &mut Dice, ports: u8, automatic: Area) -> Vec<Arrival> 
             let world = any_world(dice, automatic, (60, 120), (4, 30));
             full_history(dice, start, world)
         }
-        _ => {
+        3 => {
             let world = any_world(dice, automatic, (1, 3), (1, 6));
             history_of_ranges(dice, start, world)
+        }
+        _ => {
+            let world = any_world(dice, automatic, (1, 3), (1, 6));
+            nested_history(dice, start, world, 80)
         }
     }
 }
@@ -137,12 +90,22 @@ pub fn history_in(dice: &mut Dice, from: Gateway, world: World) -> Vec<Arrival> 
     maker.arrivals
 }
 
-/// A history that fills the table and goes on from there.
+/// A history of announcements near the lines that are there, at most so long but for a move at its end.
+pub fn nested_history(dice: &mut Dice, from: Gateway, world: World, most: usize) -> Vec<Arrival> {
+    let mut maker = Maker::new(dice, from, world);
+    maker.take(NESTED, (8, most));
+    maker.arrivals
+}
+
+/// A history that fills the table and goes on from there. Wide ranges come last: they hold what filled the table.
 fn full_history(dice: &mut Dice, from: Gateway, mut world: World) -> Vec<Arrival> {
-    world.longest_run = dice.pick(&[3, 3, 12, 64]);
+    let longest_run = dice.pick(&[3, 3, 12, 64]);
+    world.longest_run = SHORT_RUN;
     let mut maker = Maker::new(dice, from, world);
     maker.fill((220, 420));
-    maker.take(AT_THE_LIMIT, (20, 350));
+    maker.take(AT_THE_LIMIT, (10, 250));
+    maker.world.longest_run = longest_run;
+    maker.take(AT_THE_LIMIT, (10, 100));
     maker.arrivals
 }
 
@@ -156,7 +119,7 @@ fn history_of_ranges(dice: &mut Dice, from: Gateway, world: World) -> Vec<Arriva
 /// A history of exactly so many messages, the table full or nearly so in most of it.
 pub fn long_history(dice: &mut Dice, ports: u8, automatic: Area, length: usize) -> Vec<Arrival> {
     let mut world = any_world(dice, automatic, (1, 30), (200, 500));
-    world.longest_run = dice.pick(&[3, 64]);
+    world.longest_run = SHORT_RUN;
     let mut maker = Maker::new(dice, started(ports, automatic), world);
     let filling = length.min(300);
     maker.fill((filling, filling));
@@ -191,7 +154,8 @@ impl<'a> Maker<'a> {
         }
     }
 
-    /// Fills the table, at times after a first move; as often as not only until it is full, before a port is opened, and then a board moves.
+    /// Fills the table, at times after a first move; as often as not only until it is full, before a port is opened, and then mostly a line is replaced, and a
+    /// board moves.
     fn fill(&mut self, length: (usize, usize)) {
         if self.dice.chance(60) {
             self.move_a_board();
@@ -200,6 +164,10 @@ impl<'a> Maker<'a> {
             return self.take(FILLING, length);
         }
         self.take_until(|gateway| gateway.lines.len() == MOST_LINES, FILLING, length);
+        if self.dice.chance(70) {
+            let arrivals = any_replacing(self.dice, &self.gateway);
+            self.add(arrivals);
+        }
         self.move_a_board();
     }
 
@@ -227,6 +195,7 @@ impl<'a> Maker<'a> {
             mix.other,
             mix.repetition,
             mix.moving,
+            mix.nested,
         ];
         let parts = match self.dice.weighted(&weights) {
             0 => self.of_any(&[0x04C4, 0x04C5, 0x04C7]),
@@ -235,7 +204,8 @@ impl<'a> Maker<'a> {
             3 => self.of_any(&[0x0100, 0x0110]),
             4 => self.other(),
             5 => return vec![self.repetition()],
-            _ => return any_move(self.dice, &self.gateway, &self.world),
+            6 => return any_move(self.dice, &self.gateway, &self.world),
+            _ => return vec![any_nested(self.dice, &self.gateway, &self.world)],
         };
         vec![Arrival {
             port: self.port(),
@@ -255,12 +225,15 @@ impl<'a> Maker<'a> {
         Parts::with_event(self.dice, &self.world, 0x04A4, number)
     }
 
-    /// A report, at times of the event that the message before it had.
+    /// A report, at times of the event that the message before it had, or of one at the edges of a line.
     fn report(&mut self) -> Parts {
         let mut parts = self.of_any(&[0x05B4, 0x05B4, 0x05B4, 0x0F14]);
         let before = self.arrivals.last().and_then(event_in);
         if before.is_some() && self.dice.chance(30) {
             parts.event = before;
+        } else if !self.gateway.lines.is_empty() && self.dice.chance(30) {
+            let line = self.dice.pick(&self.gateway.lines);
+            parts.event = Some(event_of(self.dice, (line.start, line.k)));
         }
         parts
     }

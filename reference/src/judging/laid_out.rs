@@ -6,6 +6,7 @@ use crate::gateway::{self, Line};
 use crate::lent_box::{Block, Gateway, Head, PLACES};
 
 use super::histories::Arrival;
+use super::near_blocks::{around, near};
 use super::parts::Parts;
 use super::random::Dice;
 use super::world::{crooked_block, endless_block, low_bits, Area, World, HIGHEST_NODE};
@@ -42,6 +43,50 @@ fn any_line(dice: &mut Dice, ports: u8, world: &World) -> Line {
     }
 }
 
+/// So many lines; so many in a hundred are near one before, of its port and node, and some the same once more.
+fn lines_at_times_nested(
+    dice: &mut Dice,
+    ports: u8,
+    world: &World,
+    count: usize,
+    percent: u64,
+) -> Vec<Line> {
+    let mut lines: Vec<Line> = Vec::new();
+    for _ in 0..count {
+        let line = match dice.weighted(&[90 - percent, percent, 10]) {
+            1 if !lines.is_empty() => {
+                let line = dice.pick(&lines);
+                let (start, k) = near(dice, (line.start, line.k));
+                Line { start, k, ..line }
+            }
+            2 if !lines.is_empty() => dice.pick(&lines),
+            _ => any_line(dice, ports, world),
+        };
+        lines.push(line);
+    }
+    lines
+}
+
+/// So many lines, at most 256, whose blocks are apart, at a few of the ports: four events to each, and some or all of them in its block. Their order is not that
+/// of the events.
+fn lines_apart(dice: &mut Dice, ports: u8, world: &World, count: usize) -> Vec<Line> {
+    let base = dice.number() & !low_bits(10);
+    let step = 2 * dice.below(128) + 1;
+    let few = dice.between(1, usize::from(ports)) as u64;
+    let line = |place: usize| {
+        let k = dice.pick(&[0, 0, 0, 1, 2]);
+        let event = base + 4 * (place as u64 * step % 256) + dice.below(4);
+        let (start, k) = around(event, k);
+        Line {
+            port: dice.below(few) as u32,
+            node: world.node(dice),
+            start,
+            k,
+        }
+    };
+    (0..count).map(line).collect()
+}
+
 /// A line of any numbers that the proved table has room for.
 pub fn any_numbers(dice: &mut Dice) -> Line {
     Line {
@@ -53,18 +98,27 @@ pub fn any_numbers(dice: &mut Dice) -> Line {
 }
 
 impl Layout {
-    /// A state in bounds, equal lines among its lines at times.
+    /// A state in bounds, equal lines and such as lie inside one another among its lines at times.
     pub fn in_bounds(dice: &mut Dice, world: &World, automatic: Area) -> Layout {
         let ports = dice.between(2, 8) as u8;
-        let mut lines: Vec<Line> = Vec::new();
-        for _ in 0..dice.pick(&[0, 1, 3, 20, 100, 254, 255, 256, 256]) {
-            let line = if lines.is_empty() || dice.chance(90) {
-                any_line(dice, ports, world)
-            } else {
-                dice.pick(&lines)
-            };
-            lines.push(line);
-        }
+        let count = dice.pick(&[0, 1, 3, 20, 100, 254, 255, 256, 256]);
+        let lines = lines_at_times_nested(dice, ports, world, count, 10);
+        Layout::with_lines(dice, ports, automatic, lines)
+    }
+
+    /// A state in bounds for announcements near its lines: no lines, as from a start, lines that are apart, or such as lie inside one another.
+    pub fn nested(dice: &mut Dice, world: &World, automatic: Area) -> Layout {
+        let ports = dice.between(2, 8) as u8;
+        let count = dice.pick(&[0, 0, 0, 1, 2, 5, 12, 40, 254, 255, 255, 256, 256, 256]);
+        let lines = match dice.chance(50) {
+            true => lines_apart(dice, ports, world, count),
+            false => lines_at_times_nested(dice, ports, world, count, 60),
+        };
+        Layout::with_lines(dice, ports, automatic, lines)
+    }
+
+    /// A state with these lines.
+    fn with_lines(dice: &mut Dice, ports: u8, automatic: Area, lines: Vec<Line>) -> Layout {
         let any_marks = dice.number() as u8;
         let marks = dice.pick(&[0, 0, 0xFF, any_marks]);
         Layout {

@@ -23,6 +23,7 @@ pub mod can_talk;
 pub mod children;
 pub mod command;
 pub mod counts;
+pub mod covers;
 pub mod frame_files;
 pub mod frames;
 pub mod functions;
@@ -33,10 +34,14 @@ pub mod legs;
 pub mod lengths;
 #[cfg(feature = "proved")]
 mod messages;
+pub mod mixes;
 pub mod moves;
+pub mod near_blocks;
+pub mod nests;
 pub mod observed;
 pub mod observed_can;
 pub mod output;
+pub mod pairs;
 pub mod parts;
 pub mod programs;
 pub mod questions;
@@ -53,7 +58,15 @@ mod stand_in_box;
 #[cfg(test)]
 mod stand_in_can;
 #[cfg(test)]
+mod stand_in_covers;
+#[cfg(test)]
+mod stand_in_files;
+#[cfg(test)]
 mod stand_in_joins;
+#[cfg(test)]
+mod stand_in_pairs;
+#[cfg(test)]
+mod stand_in_replaces;
 #[cfg(test)]
 mod stand_in_restarts;
 #[cfg(test)]

@@ -1,4 +1,4 @@
-//! Boards that are carried to another leg (02, W2): the messages of one move, made of what the table holds.
+//! Boards that are carried to another leg (02, W2): the messages of one move, made of what the table holds, and the rows of moves.
 
 use crate::gateway::{Gateway, Line, MOST_LINES};
 use crate::range;
@@ -7,6 +7,44 @@ use super::histories::Arrival;
 use super::parts::{bytes_damaged_at_times, Parts};
 use super::random::Dice;
 use super::world::{low_bits, near_node, World};
+
+/// What a restart can be beside that removes lines at another port than its own.
+#[derive(Clone, Copy, PartialEq, Eq, PartialOrd, Ord, Debug)]
+pub enum Move {
+    FullTable,
+    OpenPort,
+    SeveralPorts,
+    ThreePorts,
+    NoLineAtItsPort,
+    NextNodeId,
+    SameLowBits,
+}
+
+impl Move {
+    /// All of them, in the order of the table.
+    pub const ALL: [Move; 7] = [
+        Move::FullTable,
+        Move::OpenPort,
+        Move::SeveralPorts,
+        Move::ThreePorts,
+        Move::NoLineAtItsPort,
+        Move::NextNodeId,
+        Move::SameLowBits,
+    ];
+
+    /// What its row is called.
+    pub fn label(self) -> &'static str {
+        match self {
+            Move::FullTable => "moved with a full table",
+            Move::OpenPort => "moved with an open port",
+            Move::SeveralPorts => "restarts that removed lines at several ports",
+            Move::ThreePorts => "restarts that removed lines at three or more",
+            Move::NoLineAtItsPort => "moved to a port without a line of the node",
+            Move::NextNodeId => "moved beside lines of the next Node ID",
+            Move::SameLowBits => "moved beside lines of the same low 40 bits",
+        }
+    }
+}
 
 /// How many of its announcements a board makes anew at most.
 const ANEW: [usize; 3] = [4, 24, 64];
@@ -122,16 +160,17 @@ fn another_port(dice: &mut Dice, ports: u8, taken: &[u8]) -> u8 {
     }
 }
 
-/// The announcement of a block, by its range number where it has one.
-fn announcement(dice: &mut Dice, port: u8, node: u64, (start, k): (u64, u32)) -> Arrival {
+/// The announcement of a block, by its range number where it has one, every event by either of its two.
+pub fn announcement(dice: &mut Dice, port: u8, node: u64, (start, k): (u64, u32)) -> Arrival {
     match range::number_of(start, k) {
+        Some(u64::MAX) => with_event(port, 0x04A4, node, dice.pick(&[0, u64::MAX])),
         Some(number) => with_event(port, 0x04A4, node, number),
         None => with_event(port, dice.pick(&[0x04C4, 0x04C5, 0x04C7]), node, start),
     }
 }
 
 /// A message at a port that has an event and nothing more.
-fn with_event(port: u8, mti: u16, source: u64, event: u64) -> Arrival {
+pub fn with_event(port: u8, mti: u16, source: u64, event: u64) -> Arrival {
     let parts = Parts {
         mti,
         source,
@@ -149,7 +188,7 @@ fn with_event(port: u8, mti: u16, source: u64, event: u64) -> Arrival {
 mod tests {
     use super::super::counts::Column;
     use super::super::observed;
-    use super::super::rows::{Move, Row};
+    use super::super::rows::Row;
     use super::super::world::Area;
     use super::*;
 

@@ -4,14 +4,17 @@ use std::collections::BTreeSet;
 
 use crate::board;
 use crate::gateway::{Gateway, Line, Outcome, MOST_LINES};
+use crate::message::{self, Message};
 use crate::refusal;
 use crate::trial::{self, Entry, HOUSE_NUMBER, PORTS};
 use crate::why::Reason;
 
 use super::counts::Column;
+use super::covers;
 use super::functions::Function;
 use super::histories::Arrival;
-use super::rows::{Move, Row};
+use super::moves::Move;
+use super::rows::Row;
 use super::world::low_bits;
 
 /// Puts a message to the reference and counts what came of it.
@@ -25,16 +28,40 @@ pub fn receive(gateway: &mut Gateway, arrival: &Arrival, column: &mut Column) ->
     if gateway.open.len() > before.open.len() {
         column.saw(Row::PortOpened);
     }
-    if let Some(added) = gateway.lines.get(before.lines.len()) {
-        column.saw(Row::of_block(added.k));
-        if gateway.lines.len() == MOST_LINES {
-            column.saw(Row::TableFilled);
-        }
+    if gateway.lines.len() > before.lines.len() && gateway.lines.len() == MOST_LINES {
+        column.saw(Row::TableFilled);
     }
-    if gateway.lines.len() < before.lines.len() {
-        saw_removed(&before, gateway, arrival.port, column);
+    match message::read(&arrival.bytes) {
+        Ok(message) if outcome.refusal == refusal::NONE => {
+            saw_accepted(&before, gateway, arrival.port, &message, column);
+        }
+        _ => {}
     }
     outcome
+}
+
+/// Counts what an accepted announcement or restart was beside.
+fn saw_accepted(
+    before: &Gateway,
+    after: &Gateway,
+    port: u8,
+    message: &Message,
+    column: &mut Column,
+) {
+    if let Some((start, k)) = message::announced_block(message) {
+        let line = Line {
+            port: port.into(),
+            node: message.source,
+            start,
+            k,
+        };
+        if after.lines != before.lines {
+            column.saw(Row::of_block(k));
+        }
+        covers::saw_announced(before, &line, column);
+    } else if after.lines.len() < before.lines.len() {
+        saw_removed(before, after, port, column);
+    }
 }
 
 /// Of a restart that removed lines counts whether some were at another port than its own, and what it was beside (02, W2).

@@ -24,7 +24,7 @@ const JUDGE: Judge = Judge {
     amounts: Amounts {
         files: 1_000,
         small: 0,
-        frames: 1,
+        times: 1,
     },
     // A program prints its text whole.
     without: &[Row::TextInParts],
@@ -184,7 +184,7 @@ mod tests {
         assert_eq!(sorts, JUDGE.sorts);
     }
 
-    /// As many files as there are by default reach every row that files can, those of moves many times, where the programs print what they should. In half
+    /// As many files as there are by default reach every row that files can, those of moves and of what is covered many times, where the programs print what they should. In half
     /// of the trial files or more a board moves.
     #[test]
     fn every_row_by_default() {
@@ -208,8 +208,11 @@ mod tests {
         for sort in [Sort::Trial, Sort::Why, Sort::Explain] {
             let column = &columns[sort as usize];
             assert!(2 * column.seen(Row::BoardMoved) >= column.seen(Row::Inputs));
-            let of_moves = |row: &Row| matches!(row, Row::Moved(_));
-            for row in Row::all().into_iter().filter(of_moves) {
+            let many = |row: &Row| match row {
+                Row::Cover(cover) => !cover.is_of_given_tables(),
+                _ => matches!(row, Row::Moved(_)),
+            };
+            for row in Row::all().into_iter().filter(many) {
                 let seen = column.seen(row);
                 assert!(seen >= 50, "{}: {}: {seen}", sort.name(), row.label());
             }
@@ -224,7 +227,7 @@ mod tests {
             amounts: Amounts {
                 files: 20,
                 small: 0,
-                frames: 1,
+                times: 1,
             },
             only: None,
             help: false,

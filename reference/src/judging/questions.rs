@@ -95,7 +95,7 @@ impl Blocks<'_> {
 }
 
 /// An event of a block, mostly at an edge, at times beside it.
-fn event_of(dice: &mut Dice, (start, k): (u64, u32)) -> u64 {
+pub fn event_of(dice: &mut Dice, (start, k): (u64, u32)) -> u64 {
     let mask = low_bits(k);
     let inside = start | dice.number() & mask;
     match dice.below(8) {

@@ -58,7 +58,7 @@ mod tests {
     const DEFAULT: Amounts = Amounts {
         files: 10,
         small: 20,
-        frames: 0,
+        times: 0,
     };
     const JUDGE: Judge = Judge {
         name: "judge",
@@ -73,7 +73,7 @@ mod tests {
             amounts: Amounts {
                 files,
                 small,
-                frames: 0,
+                times: 0,
             },
             only: None,
             help: false,
@@ -125,7 +125,7 @@ mod tests {
         let judge = Judge {
             sorts: &[Sort::Can],
             amounts: Amounts {
-                frames: 1,
+                times: 1,
                 ..DEFAULT
             },
             ..JUDGE

@@ -1,7 +1,10 @@
 //! The rows of the table: what inputs are to reach, and which sorts of input can.
 
+use super::covers::Cover;
 use super::functions::Function;
 use super::legs::{Leg, CAN_WAYS, CAN_WAY_COUNT, FIRST_OF_CALLS, SPLIT_LENGTHS};
+use super::moves::Move;
+use super::pairs::Pair;
 use super::sort::Sort;
 
 /// The size classes of blocks: what they are called, the least and the most k.
@@ -29,6 +32,13 @@ const REASONS: [&str; 5] = [
     "why: an open port",
     "why: a line holds it",
     "why: nothing holds it",
+];
+/// How two blocks lie to each other, by the answer's number less one.
+const COMPARED: [&str; 4] = [
+    "compare: equal",
+    "compare: the first inside",
+    "compare: the second inside",
+    "compare: apart",
 ];
 /// The messages that a board writes.
 const WRITTEN: [u16; 8] = [
@@ -90,46 +100,11 @@ pub const BOARD_WAY_COUNT: usize = BOARD_WAYS.len();
 /// The first of the ways that only lists can be out of bounds in.
 pub const FIRST_UNEQUAL: usize = 9;
 
-/// How many times the default inputs have to reach a row of a CAN leg.
-const LEAST_OF_LEG: u64 = 10;
+/// The sorts of input that put messages to a box.
+const BOXES: [Sort; 5] = [Sort::Box, Sort::Trial, Sort::Why, Sort::Explain, Sort::Nest];
 
-/// What a restart can be beside that removes lines at another port than its own.
-#[derive(Clone, Copy, PartialEq, Eq, PartialOrd, Ord, Debug)]
-pub enum Move {
-    FullTable,
-    OpenPort,
-    SeveralPorts,
-    ThreePorts,
-    NoLineAtItsPort,
-    NextNodeId,
-    SameLowBits,
-}
-
-impl Move {
-    /// All of them, in the order of the table.
-    const ALL: [Move; 7] = [
-        Move::FullTable,
-        Move::OpenPort,
-        Move::SeveralPorts,
-        Move::ThreePorts,
-        Move::NoLineAtItsPort,
-        Move::NextNodeId,
-        Move::SameLowBits,
-    ];
-
-    /// What its row is called.
-    fn label(self) -> &'static str {
-        match self {
-            Move::FullTable => "moved with a full table",
-            Move::OpenPort => "moved with an open port",
-            Move::SeveralPorts => "restarts that removed lines at several ports",
-            Move::ThreePorts => "restarts that removed lines at three or more",
-            Move::NoLineAtItsPort => "moved to a port without a line of the node",
-            Move::NextNodeId => "moved beside lines of the next Node ID",
-            Move::SameLowBits => "moved beside lines of the same low 40 bits",
-        }
-    }
-}
+/// How many times the default inputs have to reach a row of a CAN leg, or one of what is covered.
+const LEAST_OF_MANY: u64 = 10;
 
 /// A row: something that can be seen of an input.
 #[derive(Clone, Copy, PartialEq, Eq, PartialOrd, Ord, Debug)]
@@ -149,6 +124,8 @@ pub enum Row {
     BoardMoved,
     /// The same, counted for each such restart.
     RemovedElsewhere,
+    /// Counted once an input: an announcement lay inside a line of its port and node, or held one.
+    BlocksNested,
     /// Such a restart, and what it was beside.
     Moved(Move),
     /// Why a report is sent or not, the reason by its number.
@@ -181,6 +158,12 @@ pub enum Row {
     /// A report with so many bytes of payload was split, by the place among the lengths.
     SplitLength(usize),
     CanWay(usize),
+    /// How two blocks lie to each other, by the answer's number.
+    Compared(u8),
+    /// What a pair of blocks was beside the answer.
+    Pair(Pair),
+    /// What an announcement was beside, or what a given table has.
+    Cover(Cover),
 }
 
 impl Row {
@@ -195,10 +178,14 @@ impl Row {
         rows.extend([Row::SentToAllOthers, Row::TableFilled, Row::PortOpened]);
         rows.extend([Row::BoardMoved, Row::RemovedElsewhere]);
         rows.extend(Move::ALL.map(Row::Moved));
+        rows.extend([Row::BlocksNested]);
+        rows.extend(Cover::ALL.map(Row::Cover));
         rows.extend((1..=REASONS.len() as u8).map(Row::Reason));
         rows.extend([Row::HeldByOneEvent, Row::HeldByRange]);
         rows.extend([Row::HeldInTheLastPlace, Row::HeldOnceMore]);
         rows.extend((0..SIZES.len()).map(Row::Block));
+        rows.extend((1..=COMPARED.len() as u8).map(Row::Compared));
+        rows.extend(Pair::ALL.map(Row::Pair));
         rows.extend((0..BOARDS.len()).map(Row::Board));
         rows.extend([Row::Matched, Row::OneReply, Row::SeveralReplies]);
         rows.extend([Row::LongestReplies, Row::NothingToDo]);
@@ -250,7 +237,11 @@ impl Row {
             Row::Answer(Function::Join | Function::Split, _)
             | Row::Leg(_)
             | Row::SplitLength(_)
-            | Row::CanWay(_) => LEAST_OF_LEG,
+            | Row::CanWay(_)
+            | Row::Answer(Function::Compare, _)
+            | Row::Compared(_)
+            | Row::Pair(_)
+            | Row::Cover(_) => LEAST_OF_MANY,
             _ => 1,
         }
     }
@@ -275,6 +266,9 @@ impl Row {
             Row::ListLength(way) => LENGTHS[way],
             Row::BoardWay(way) => BOARD_WAYS[way],
             Row::Moved(beside) => beside.label(),
+            Row::Compared(number) => COMPARED[usize::from(number) - 1],
+            Row::Pair(pair) => pair.label(),
+            Row::Cover(cover) => cover.label(),
             Row::Inputs => "inputs",
             Row::Comparisons => "comparisons",
             Row::TooManyReplies => "refused 13 (never: 64 replies are 1,024 bytes)",
@@ -284,6 +278,7 @@ impl Row {
             Row::TableFilled => "tables filled to 256 lines",
             Row::PortOpened => "ports opened",
             Row::BoardMoved => "inputs in which a board moved",
+            Row::BlocksNested => "inputs with blocks inside one another",
             Row::RemovedElsewhere => "restarts that removed lines at another port",
             Row::HeldByOneEvent => "why: a line of one event",
             Row::HeldByRange => "why: a line of a range",
@@ -311,11 +306,15 @@ impl Row {
         match self {
             Row::Inputs | Row::Comparisons => &Sort::ALL,
             // A box that was started, as a trial's is, never is out of bounds.
-            Row::Answer(Function::Receive | Function::Why, crate::refusal::BOUNDS) => &[Sort::Box],
+            Row::Answer(Function::Receive | Function::Why, crate::refusal::BOUNDS) => {
+                &[Sort::Box, Sort::Nest]
+            }
             Row::Answer(function, refusal) if function.answers().contains(&refusal) => {
                 function.sorts()
             }
             Row::Answer(..) | Row::TooManyReplies => &[],
+            Row::Compared(_) | Row::Pair(_) => &[Sort::Pair],
+            Row::Cover(cover) if cover.is_of_given_tables() => &[Sort::Box, Sort::Nest],
             Row::SentToNone
             | Row::SentToSome
             | Row::SentToAllOthers
@@ -323,20 +322,23 @@ impl Row {
             | Row::PortOpened
             | Row::BoardMoved
             | Row::RemovedElsewhere
-            | Row::Moved(_) => &[Sort::Box, Sort::Trial, Sort::Why, Sort::Explain],
+            | Row::BlocksNested
+            | Row::Moved(_)
+            | Row::Cover(_) => &BOXES,
             Row::Reason(_)
             | Row::HeldByOneEvent
             | Row::HeldByRange
             | Row::HeldInTheLastPlace
-            | Row::HeldOnceMore => &[Sort::Box, Sort::Why, Sort::Explain],
+            | Row::HeldOnceMore => &[Sort::Box, Sort::Why, Sort::Explain, Sort::Nest],
             // No range number is of a single event.
-            Row::Block(0) => &[Sort::Box, Sort::Trial, Sort::Why, Sort::Explain],
+            Row::Block(0) => &BOXES,
             Row::Block(_) => &[
                 Sort::Range,
                 Sort::Box,
                 Sort::Trial,
                 Sort::Why,
                 Sort::Explain,
+                Sort::Nest,
             ],
             Row::Board(_)
             | Row::Matched
@@ -358,7 +360,8 @@ impl Row {
             Row::NoReport => &[Sort::Explain],
             Row::TextInParts => &[Sort::Trial, Sort::Board, Sort::Frame],
             Row::WrittenBack => &[Sort::Message],
-            Row::BoxWay(_) | Row::ListLength(_) => &[Sort::Box],
+            Row::BoxWay(_) => &[Sort::Box],
+            Row::ListLength(_) => &[Sort::Box, Sort::Nest],
             Row::OnSlotRecords | Row::OnLists | Row::BoardWay(_) => &[Sort::Calls],
             Row::Leg(Leg::SplitThenJoined) => &[Sort::Can],
             Row::CanWay(way) if way >= FIRST_OF_CALLS => &[Sort::Can],

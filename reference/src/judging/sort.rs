@@ -17,11 +17,15 @@ pub enum Sort {
     Frame,
     /// Calls of the CAN side.
     Can,
+    /// Pairs of blocks that are compared.
+    Pair,
+    /// Histories of a box with nested ranges.
+    Nest,
 }
 
 impl Sort {
     /// All sorts, in the order in which they are run.
-    pub const ALL: [Sort; 10] = [
+    pub const ALL: [Sort; 12] = [
         Sort::Range,
         Sort::Message,
         Sort::Box,
@@ -32,10 +36,12 @@ impl Sort {
         Sort::Explain,
         Sort::Frame,
         Sort::Can,
+        Sort::Pair,
+        Sort::Nest,
     ];
 
     /// Those of the archive, which has no call for the texts of `why` and `explain`.
-    pub const OF_ARCHIVE: [Sort; 8] = [
+    pub const OF_ARCHIVE: [Sort; 10] = [
         Sort::Range,
         Sort::Message,
         Sort::Box,
@@ -44,6 +50,8 @@ impl Sort {
         Sort::Calls,
         Sort::Frame,
         Sort::Can,
+        Sort::Pair,
+        Sort::Nest,
     ];
     /// Those of the programs.
     pub const OF_PROGRAMS: [Sort; 5] = [
@@ -67,6 +75,8 @@ impl Sort {
             Sort::Explain => "explain",
             Sort::Frame => "frame",
             Sort::Can => "can",
+            Sort::Pair => "pair",
+            Sort::Nest => "nest",
         }
     }
 

@@ -196,7 +196,7 @@ const JUDGE: Judge = Judge {
     amounts: Amounts {
         files: 2_000,
         small: 0,
-        frames: 0,
+        times: 0,
     },
     without: &[],
 };

@@ -1,4 +1,4 @@
-//! Stands in for the archive's box in tests of the judge: the reference itself, with a slip in its answer why or at a restart, or without.
+//! Stands in for the archive's box in tests of the judge: the reference itself, with a slip in its answer why, at a restart or at an announcement, or without.
 
 use crate::gateway;
 use crate::lent_box::{Answer, Block, Gateway, Head, LentAnswer, Lists, Reason, PLACES};
@@ -8,27 +8,42 @@ use super::boxes::{self, Calls};
 use super::command::{Amounts, Judge, Options};
 use super::counts::{Column, Columns};
 use super::functions::Function;
+use super::nests;
 use super::questions::reason_of;
 use super::random::Dice;
 use super::reached;
 use super::rows::Row;
 use super::sort::Sort;
+use super::stand_in_covers::{self as covers, Announcement};
 use super::stand_in_restarts::{self as restarts, Restart};
 use super::stand_in_why::{self as whys, Asked};
 use super::witness::Witness;
 
-/// A stand-in with a slip in each call, and whether it writes into what it only has to read.
+/// The slips of a call that takes a message.
+#[derive(Clone, Copy)]
+pub struct Slips {
+    pub restart: restarts::Slip,
+    pub announcement: covers::Slip,
+}
+
+/// None.
+pub const NO_SLIPS: Slips = Slips {
+    restart: restarts::none,
+    announcement: covers::none,
+};
+
+/// A stand-in with slips in each call, and whether it writes into what it only has to read.
 pub struct StandIn {
-    by_value: restarts::Slip,
-    in_place: restarts::Slip,
+    by_value: Slips,
+    in_place: Slips,
     why: whys::Slip,
     writes: bool,
 }
 
 /// One without a slip.
 pub const SOUND: StandIn = StandIn {
-    by_value: restarts::none,
-    in_place: restarts::none,
+    by_value: NO_SLIPS,
+    in_place: NO_SLIPS,
     why: whys::none,
     writes: false,
 };
@@ -39,8 +54,8 @@ impl StandIn {
         StandIn { why, ..SOUND }
     }
 
-    /// One with a slip at a restart in either call.
-    pub fn with_restarts(by_value: restarts::Slip, in_place: restarts::Slip) -> StandIn {
+    /// One with slips in either call.
+    pub fn with_slips(by_value: Slips, in_place: Slips) -> StandIn {
         StandIn {
             by_value,
             in_place,
@@ -104,19 +119,23 @@ fn bits(ports: impl IntoIterator<Item = u32>) -> u8 {
     ports.into_iter().map(|port| 1u8 << port).sum()
 }
 
-/// The answer to a message, with a slip where it is a restart.
-fn received(gateway: &Gateway, port: u8, bytes: &[u8], slip: restarts::Slip) -> Answer {
+/// The answer to a message, with a slip where it is a restart or an announcement.
+fn received(gateway: &Gateway, port: u8, bytes: &[u8], slips: Slips) -> Answer {
     let before = state_of(gateway);
     let mut state = before.clone();
     let outcome = state.receive(port.into(), bytes);
     let mut after = *gateway;
     if outcome.refusal == refusal::NONE {
         if let Some(restart) = Restart::of(&before, port, bytes) {
-            slip(&restart, &mut state);
+            (slips.restart)(&restart, &mut state);
+        }
+        if let Some(announcement) = Announcement::of(&before, port, bytes) {
+            (slips.announcement)(&announcement, &mut state);
         }
         after.head.marks = bits(state.open);
         after.head.count = state.lines.len();
-        for (place, line) in state.lines.iter().enumerate() {
+        // Slips can make more lines than there are places.
+        for (place, line) in state.lines.iter().take(PLACES).enumerate() {
             after.set_line(place, line);
         }
     }
@@ -199,32 +218,38 @@ impl Calls for StandIn {
 
 const JUDGE: Judge = Judge {
     name: "stand-in",
-    sorts: &[Sort::Box],
+    sorts: &[Sort::Box, Sort::Nest],
     amounts: Amounts {
         files: 2_000,
         small: 0,
-        frames: 0,
+        times: 1,
     },
     without: &[],
 };
 
-/// Whether one input differs, and what it has reached.
-pub fn differs(seed: u64, index: u64, stand_in: &StandIn, column: &mut Column) -> bool {
+/// Whether one input of a sort differs, and what it has reached.
+pub fn differs(seed: u64, sort: Sort, index: u64, stand_in: &StandIn, column: &mut Column) -> bool {
     column.saw_input();
     let mut witness = Witness::new(column, false);
-    let mut dice = Dice::of_input(seed, Sort::Box as u64, index);
-    boxes::judge(&mut dice, &mut witness, stand_in);
+    let mut dice = Dice::of_input(seed, sort as u64, index);
+    match sort {
+        Sort::Nest => nests::judge(&mut dice, &mut witness, stand_in),
+        _ => boxes::judge(&mut dice, &mut witness, stand_in),
+    }
     !witness.agreed()
 }
 
-/// A sound archive agrees on every input, and as many inputs as there are by default reach every row, those of why and of moves many times. In half of
-/// them or more a board moves.
+/// A sound archive agrees on every input, and as many inputs as there are by default reach every row, a tenth of them those of nested ranges; those of why, of
+/// moves and of what is covered are reached many times. In half of the histories or more a board moves.
 #[test]
 fn a_sound_archive() {
     let mut columns = Columns::default();
-    let column = &mut columns[Sort::Box as usize];
-    for index in 0..JUDGE.amounts.files {
-        assert!(!differs(1, index, &SOUND, column), "input {index}");
+    for sort in [Sort::Box, Sort::Nest] {
+        for index in 0..JUDGE.amounts.of(sort) {
+            let column = &mut columns[sort as usize];
+            let differs = differs(1, sort, index, &SOUND, column);
+            assert!(!differs, "{} {index}", sort.name());
+        }
     }
     let options = Options {
         seed: 1,
@@ -233,17 +258,24 @@ fn a_sound_archive() {
         help: false,
     };
     assert_eq!(reached::faults(&JUDGE, &options, &columns), [""; 0]);
-    let column = &columns[Sort::Box as usize];
-    let many = |row: &Row| {
+    let of_box = |row: &Row| {
         matches!(
             row,
             Row::Reason(_) | Row::Answer(Function::Why, _) | Row::Moved(_)
         )
     };
-    for row in Row::all().into_iter().filter(many) {
-        let seen = column.seen(row);
-        assert!(seen >= 200, "{}: {seen}", row.label());
+    let of_covers = |row: &Row| matches!(row, Row::Cover(_));
+    for (sort, many, least) in [
+        (Sort::Box, of_box as fn(&Row) -> bool, 200),
+        (Sort::Box, of_covers, 100),
+        (Sort::Nest, of_covers, 100),
+    ] {
+        for row in Row::all().into_iter().filter(many) {
+            let seen = columns[sort as usize].seen(row);
+            assert!(seen >= least, "{}: {}: {seen}", sort.name(), row.label());
+        }
     }
+    let column = &columns[Sort::Box as usize];
     assert!(2 * column.seen(Row::BoardMoved) >= column.seen(Row::Inputs));
 }
 
@@ -255,6 +287,12 @@ fn writing() {
         ..SOUND
     };
     for index in 0..300 {
-        assert!(differs(1, index, &stand_in, &mut Column::default()));
+        assert!(differs(
+            1,
+            Sort::Box,
+            index,
+            &stand_in,
+            &mut Column::default()
+        ));
     }
 }

@@ -185,7 +185,7 @@ const JUDGE: Judge = Judge {
     amounts: Amounts {
         files: 2_000,
         small: 0,
-        frames: 1,
+        times: 1,
     },
     without: &[],
 };

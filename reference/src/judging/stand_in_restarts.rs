@@ -1,16 +1,12 @@
 //! Slips at a restart, in the stand-in for the archive's box (02, W2): what it removes, what it leaves, and in which order.
 
 use crate::gateway::{Gateway, Line, MOST_LINES};
-use crate::lent_box::{self, Reason};
 use crate::message;
-use crate::trial::{self, Entry, HOUSE_NUMBER, PORTS};
 
-use super::boxes::Calls;
 use super::counts::Column;
-use super::random::Dice;
 use super::sort::Sort;
-use super::stand_in_box::{differs, StandIn, SOUND};
-use super::trial_files::{any_file, any_file_to_ask};
+use super::stand_in_box::{differs, Slips, StandIn, NO_SLIPS};
+use super::stand_in_files::{explain_shows, trial_shows};
 use super::world::low_bits;
 
 /// A restart that is accepted: the state before it, its port, its MTI and its node.
@@ -207,73 +203,34 @@ const SLIPS: [Slip; 18] = [
 /// Slips in the order of the lines, which `trial` does not show.
 const SLIPS_OF_ORDER: [Slip; 2] = [the_rest_is_reversed, the_last_line_fills_the_gap];
 
+/// The slip alone.
+fn with(restart: Slip) -> Slips {
+    Slips {
+        restart,
+        ..NO_SLIPS
+    }
+}
+
 /// Every slip is found soon, in whichever call it is, whatever the seed.
 #[test]
 fn slips() {
     for (place, slip) in SLIPS.into_iter().chain(SLIPS_OF_ORDER).enumerate() {
         for (by_value, in_place) in [(slip, none as Slip), (none, slip)] {
-            let stand_in = StandIn::with_restarts(by_value, in_place);
+            let stand_in = StandIn::with_slips(with(by_value), with(in_place));
             for seed in 1..=4 {
-                let found = |index| differs(seed, index, &stand_in, &mut Column::default());
+                let column = &mut Column::default();
+                let found = |index| differs(seed, Sort::Box, index, &stand_in, column);
                 assert!((0..200).any(found), "slip {place} with seed {seed}");
             }
         }
     }
 }
 
-/// What comes of the entries of a file, each with the state before it.
-fn answers<T>(
-    file: &[u8],
-    stand_in: &StandIn,
-    shown: impl Fn(&mut lent_box::Gateway, &Entry, &lent_box::Answer) -> T,
-) -> Vec<T> {
-    let mut gateway = stand_in.start(PORTS as u8, HOUSE_NUMBER).gateway;
-    let mut all = Vec::new();
-    for entry in trial::entries_of(file).unwrap_or_default() {
-        let answer = stand_in.receive(&gateway, entry.port as u8, &entry.body);
-        all.push(shown(&mut gateway, &entry, &answer));
-        gateway = answer.gateway;
-    }
-    all
-}
-
-/// What the lines of `trial` say: each entry's refusal, the ports sent to, and the lines in the table.
-fn shown_by_trial(file: &[u8], stand_in: &StandIn) -> Vec<(u8, u8, usize)> {
-    answers(file, stand_in, |_, _, answer| {
-        (answer.refusal, answer.sent, answer.gateway.head.count)
-    })
-}
-
-/// What the lines of `explain` say: each entry's refusal, and the reasons at all ports.
-fn shown_by_explain(file: &[u8], stand_in: &StandIn) -> Vec<(u8, Vec<Reason>)> {
-    answers(file, stand_in, |before, entry, answer| {
-        let (head, port) = (before.head, entry.port as u8);
-        let why = |asked| stand_in.why(head, before.lists(), port, asked, &entry.body);
-        (answer.refusal, (0..PORTS as u8).map(why).collect())
-    })
-}
-
-/// Whether files of a sort show a slip soon, whatever the seed.
-fn files_show<T: PartialEq>(
-    slip: Slip,
-    sort: Sort,
-    any_file: fn(&mut Dice) -> Vec<u8>,
-    shown: fn(&[u8], &StandIn) -> T,
-) -> bool {
-    let slipped = StandIn::with_restarts(slip, none);
-    let shows = |seed, index| {
-        let file = any_file(&mut Dice::of_input(seed, sort as u64, index));
-        shown(&file, &slipped) != shown(&file, &SOUND)
-    };
-    (1..=4).all(|seed| (0..200).any(|index| shows(seed, index)))
-}
-
 /// Trial files show every slip too, but for those of order.
 #[test]
 fn slips_in_trial_files() {
     for (place, slip) in SLIPS.into_iter().enumerate() {
-        let show = files_show(slip, Sort::Trial, any_file, shown_by_trial);
-        assert!(show, "slip {place}");
+        assert!(trial_shows(with(slip)), "slip {place}");
     }
 }
 
@@ -281,7 +238,6 @@ fn slips_in_trial_files() {
 #[test]
 fn slips_in_explained_files() {
     for (place, slip) in SLIPS.into_iter().chain(SLIPS_OF_ORDER).enumerate() {
-        let show = files_show(slip, Sort::Explain, any_file_to_ask, shown_by_explain);
-        assert!(show, "slip {place}");
+        assert!(explain_shows(with(slip)), "slip {place}");
     }
 }

@@ -79,7 +79,7 @@ fn compare_bounds(dice: &mut Dice) {
     receive_on_both(&mut quick, 0, &[], true);
 }
 
-/// Messages one after the other through one box, which starts almost full every other time.
+/// Messages one after the other through one box, which starts almost full every other time; then its first node announces at times too, also what holds its lines.
 fn compare_histories(dice: &mut Dice) {
     let ports = 2 + dice.below(7) as u8;
     let automatic = dice.pick(&[HOUSE_NUMBER, 0, u64::MAX, 1, EVENT + 0xFF]);
@@ -90,7 +90,13 @@ fn compare_histories(dice: &mut Dice) {
     let spread = dice.pick(&[12, 600]);
     for _ in 0..700 {
         let port = dice.below(u64::from(ports) + 1) as u8;
-        let bytes = any_bytes(dice, spread);
+        let mut bytes = any_bytes(dice, spread);
+        if bytes.starts_with(&[0x04, 0xA4]) && bytes.len() == 16 && dice.one_in(10) {
+            let first = quick.lines[0];
+            bytes[2..8].copy_from_slice(&first.node.to_be_bytes()[2..]);
+            let number = any_range(dice, first.start);
+            bytes[8..].copy_from_slice(&number.to_be_bytes());
+        }
         receive_on_both(&mut quick, port, &bytes, dice.one_in(2));
     }
 }
@@ -158,7 +164,13 @@ fn any_bytes(dice: &mut Dice, spread: u64) -> Vec<u8> {
         bytes.extend(&dice.pick(&[0, NODE]).to_be_bytes()[2..]);
     }
     if message::has_event(mti) {
-        bytes.extend((EVENT + dice.below(spread)).to_be_bytes());
+        let event = EVENT + dice.below(spread);
+        let number = if mti == 0x04A4 {
+            any_range(dice, event)
+        } else {
+            event
+        };
+        bytes.extend(number.to_be_bytes());
     }
     match mti {
         0x0100 | 0x0110 => bytes.extend(&source.to_be_bytes()[2..]),
@@ -170,6 +182,16 @@ fn any_bytes(dice: &mut Dice, spread: u64) -> Vec<u8> {
         bytes.resize(dice.below(30) as usize, 0);
     }
     bytes
+}
+
+/// A range around an event, mostly of a few, at times of many that are there, seldom of all.
+fn any_range(dice: &mut Dice, event: u64) -> u64 {
+    let low = dice.pick(&[0, 0, 1, 2, 3, 4, 6, 10]);
+    match dice.below(60) {
+        0 => dice.pick(&[0, u64::MAX]),
+        1 => event | 0xFFFF_FFFF,
+        _ => event | ((1 << low) - 1),
+    }
 }
 
 /// Fields that mostly follow the flags of the MTI.

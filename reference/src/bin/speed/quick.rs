@@ -293,16 +293,46 @@ impl Gateway {
             k,
             port,
         };
-        if self.lines().contains(&line) {
-            return;
-        }
-        match self.lines.get_mut(self.count) {
-            Some(place) => {
-                *place = line;
-                self.count += 1;
+        // The lines are changed only once none covers it.
+        let mut first_held = self.count;
+        let above = !low_bits(k);
+        for (place, other) in self.lines().iter().enumerate() {
+            if other.node == node && other.port == port {
+                if other.k < k {
+                    if other.start & above == start {
+                        first_held = first_held.min(place);
+                    }
+                } else if holds(other.start, other.k, start) {
+                    return;
+                }
             }
-            None => self.marks |= 1 << port,
         }
+        if first_held < self.count {
+            self.replace(line, first_held);
+        } else if let Some(place) = self.lines.get_mut(self.count) {
+            *place = line;
+            self.count += 1;
+        } else {
+            self.marks |= 1 << port;
+        }
+    }
+
+    /// Every line that it holds goes, the first of them at a place, and it stands at the end. None covers it, so every line of its port and node that begins
+    /// inside it is held.
+    fn replace(&mut self, line: Line, first_held: usize) {
+        let above = !low_bits(line.k);
+        let lines = &mut self.lines[..self.count];
+        let mut kept = first_held;
+        for place in first_held + 1..lines.len() {
+            let other = lines[place];
+            let own = other.node == line.node && other.port == line.port;
+            if !own || other.start & above != line.start {
+                lines[kept] = other;
+                kept += 1;
+            }
+        }
+        lines[kept] = line;
+        self.count = kept + 1;
     }
 
     /// The node's lines go at every port.

@@ -28,6 +28,7 @@ const EVENT: u64 = 0x0A00_0000_0001_0000;
 const UNWANTED: u64 = 0x0B00_0000_0000_0000;
 const REPORT: u16 = 0x05B4;
 const CONSUMER_IDENTIFIED: u16 = 0x04C4;
+const CONSUMER_RANGE_IDENTIFIED: u16 = 0x04A4;
 const RESTART: u16 = 0x0100;
 const IDENTIFY_ADDRESSED: u16 = 0x0968;
 const OTHER: u16 = 0x0490;
@@ -91,7 +92,34 @@ fn announcement_rows() -> Vec<Row> {
     vec![
         changing("announce-new", table(64), 1, new, 65),
         unchanging("announce-again", table(64), last.port, again, 0b1101),
+        covered_row(),
+        replacing_row(),
     ]
+}
+
+/// The last of 64 lines is a block of 256, and an event inside it is announced.
+fn covered_row() -> Row {
+    let mut gateway = table(64);
+    let block = &mut gateway.lines[63];
+    (block.k, block.port) = (8, 1);
+    let inside = message(CONSUMER_IDENTIFIED, block.node, block.start + 7);
+    unchanging("announce-inside", gateway, 1, inside, 0b1101)
+}
+
+/// In 128 lines, one node has every other line, and announces a block that holds them all.
+fn replacing_row() -> Row {
+    let (many, first) = (NODE + 1_000, EVENT + 0x10_0000);
+    let mut gateway = table(128);
+    for (event, line) in (0..).zip(gateway.lines[..128].iter_mut().step_by(2)) {
+        *line = Line {
+            node: many,
+            start: first + event,
+            k: 0,
+            port: 1,
+        };
+    }
+    let block = message(CONSUMER_RANGE_IDENTIFIED, many, first + 63);
+    changing("announce-over-64", gateway, 1, block, 65)
 }
 
 /// In 128 lines, one node has every other line and another has a single one in the middle.
