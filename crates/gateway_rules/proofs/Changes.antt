@@ -14,12 +14,12 @@ use Rattle.message.specs.declared.Saying.the-variants.{Report, Announcement, Re
 use Rattle.message.specs.Reading.{messageIn}
 use Rattle.message.specs.Saying.{saidBy}
 use Rattle.basics.specs.Refusals.{firstOf, answered}
-use Rattle.basics.specs.Lists.{Among}
+use Rattle.basics.specs.Lists.{Among, without}
 use Rattle.basics.proofs.Lists.{length-without}
 use Rattle.basics.proofs.Among.{among-without, among-kept, any-stays}
 use Rattle.gateway_rules.specs.declared.Line.{Line}
 use Rattle.gateway_rules.specs.State.{Gate, full}
-use Rattle.gateway_rules.specs.Step.{line, within, covered, holdsSome, ofNode, adding, replacing, opening, storing, announce, hear, taken, taking, refusing, stepTests, step}
+use Rattle.gateway_rules.specs.Step.{line, within, covered, holdsSome, ofNode, withLines, adding, replacing, opening, storing, announce, hear, taken, taking, refusing, stepTests, step}
 use Rattle.gateway_rules.specs.History.{Heard, leftBy, changing}
 use Rattle.gateway_rules.proofs.Within.{inner}
 
@@ -32,7 +32,7 @@ pub data Change (g : Gate) (q : ℕ) (m : Message) : Gate → Type 0 where
   restarted : saidBy m ≡ Restart → Change g q m (hear g q (m .source) Restart)
   covered-already : (b : Block) → saidBy m ≡ Announcement b → covered (g .lines) (line q (m .source) b) ≡ true → Change g q m g
   replaced : (b : Block) → saidBy m ≡ Announcement b → covered (g .lines) (line q (m .source) b) ≡ false → holdsSome (g .lines) (line q (m .source) b) ≡ true
-      → Change g q m (replacing g (line q (m .source) b))
+      → Change g q m (withLines g (without (λ x. within x (line q (m .source) b)) (g .lines) ++ (line q (m .source) b ∷ [])))
   added : (b : Block) → saidBy m ≡ Announcement b → New g (line q (m .source) b) → length (g .lines) < full → Change g q m (adding g (line q (m .source) b))
   opened : (b : Block) → saidBy m ≡ Announcement b → New g (line q (m .source) b) → full ≤ length (g .lines) → Change g q m (opening g q)
   passed : changing (saidBy m) ≡ false → Change g q m g

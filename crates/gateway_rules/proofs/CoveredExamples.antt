@@ -14,7 +14,7 @@ use Rattle.gateway_rules.specs.declared.Line.{Line}
 use Rattle.gateway_rules.specs.State.{Gate, outOfBounds, startOf}
 use Rattle.gateway_rules.specs.Step.{line, unnested, announce, taken, wants, goesTo, step}
 use Rattle.gateway_rules.specs.History.{Entry}
-use Rattle.gateway_rules.proofs.Examples.{entry, withEvent, printed, row}
+use Rattle.gateway_rules.proofs.Entries.{entry, withEvent, printed, row}
 
 -- The line of 2^k events from a start on, which a node announced at a port.
 abbrev at : ℕ → ℕ → ℕ → ℕ → Line

@@ -1,7 +1,7 @@
 -- That nothing above is vacuous, by computation: document 01's example, a live announcement, and a table that fills.
 use Prim.Native.Nat.{ℕ, zero, suc}
 use mathlib.Core.Path.{_≡_, refl}
-use mathlib.Core.Bool.{true, false, cond}
+use mathlib.Core.Bool.{true, false}
 use mathlib.Core.List.{List, [], _∷_, _++_}
 use lib.ListN.{length}
 use Rattle.range.specs.Range.{bitsEqual, run, isBlock, hasNumber, inBlock, single, blockOf, house, inside}
@@ -13,22 +13,14 @@ use Rattle.message.specs.Reading.{fieldsIn}
 use Rattle.message.specs.declared.Saying.{Saying}
 use Rattle.message.specs.declared.Saying.the-variants.{Announcement, Restart}
 use Rattle.message.specs.Saying.{saidBy}
-use Rattle.gateway_rules.specs.State.{Gate, outOfBounds, startOf}
+use Rattle.gateway_rules.specs.State.{outOfBounds, startOf}
 use Rattle.gateway_rules.specs.Step.{announce, taken, wants, goesTo, step}
 use Rattle.gateway_rules.specs.History.{Entry, Heard, Live, leftBy, Word, concerning}
+use Rattle.gateway_rules.proofs.Entries.{entry, withEvent, initialized, printed, row}
 use Rattle.gateway_rules.proofs.Holding.{no-restart}
 use Rattle.basics.specs.Since.Never.{nothing, nor}
 
 -- ---- document 01's seven entries
-
-abbrev pub entry : ℕ → List ℕ → Entry
-entry port bytes = record { port = port; bytes = bytes }
-
-abbrev pub withEvent : ℕ → ℕ → ℕ → List ℕ
-withEvent mti source event = bytesOf 2 mti ++ (bytesOf 6 source ++ bytesOf 8 event)
-
-abbrev pub initialized : ℕ → List ℕ
-initialized node = bytesOf 2 0x0100 ++ (bytesOf 6 node ++ bytesOf 6 node)
 
 abbrev seven : List Entry
 seven =
@@ -40,25 +32,6 @@ seven =
     ∷ entry 0 (withEvent 0x05B4 0x0A0000000009 0x0A00000000010001)
     ∷ entry 4 []
     ∷ []
-
--- What is printed of an entry: the refusal, a digit for each of four ports, and the lines in the table.
-pub record Printed : Type 0 where
-  pub refusal : ℕ
-  pub digits : List ℕ
-  pub lines : ℕ
-
-abbrev pub printed : Gate → List Entry → List Printed
-printed g [] = []
-printed g (e ∷ h) =
-    let o = step g (e .port) (e .bytes) in
-    record {
-      refusal = o .refusal;
-      digits = cond (o .to 0) 1 0 ∷ cond (o .to 1) 1 0 ∷ cond (o .to 2) 1 0 ∷ cond (o .to 3) 1 0 ∷ [];
-      lines = length (o .next .lines);
-    } ∷ printed (o .next) h
-
-abbrev pub row : ℕ → ℕ → ℕ → ℕ → ℕ → ℕ → Printed
-row refusal a b c d lines = record { refusal = refusal; digits = a ∷ b ∷ c ∷ d ∷ []; lines = lines }
 
 pub seven-lines : printed (startOf 4 house) seven
     ≡ row 0 1 0 1 1 1 ∷ row 0 0 1 0 0 1 ∷ row 0 1 0 1 1 1 ∷ row 0 0 1 0 0 1 ∷ row 0 1 0 1 1 0 ∷ row 0 0 0 0 0 0 ∷ row 8 0 0 0 0 0 ∷ []

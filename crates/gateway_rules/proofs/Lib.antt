@@ -12,6 +12,7 @@ pub mod OwnLines
 pub mod Unnested
 pub mod Accepted
 pub mod Sharing
+pub mod Entries
 pub mod Examples
 pub mod AskedExamples
 pub mod MovedExamples

@@ -18,7 +18,7 @@ use Rattle.basics.specs.Since.Never.{nothing, nor}
 use Rattle.gateway_rules.specs.State.{Gate, outOfBounds, startOf}
 use Rattle.gateway_rules.specs.Step.{line, announce, hear, taken, wants, goesTo, step}
 use Rattle.gateway_rules.specs.History.{Entry, Heard, Restarts, Live}
-use Rattle.gateway_rules.proofs.Examples.{entry, withEvent, initialized, printed, row}
+use Rattle.gateway_rules.proofs.Entries.{entry, withEvent, initialized, printed, row}
 
 -- A node's announcement of an event, its restart, and the panel's report of an event, which comes in by port 0.
 abbrev announces : ℕ → ℕ → ℕ → Entry

@@ -14,7 +14,7 @@ use Rattle.gateway_rules.specs.declared.Line.{Line}
 use Rattle.gateway_rules.specs.State.{Gate, full, outOfBounds, startOf}
 use Rattle.gateway_rules.specs.Step.{line, within, heldBy, covered, holdsSome, unnested, ofNode, start}
 use Rattle.gateway_rules.specs.History.{Entry, after, Heard, accepted, leftBy}
-use Rattle.gateway_rules.proofs.Changes.{New, Change, change-of, left-end}
+use Rattle.gateway_rules.proofs.Changes.{Change, change-of, left-end}
 use Rattle.gateway_rules.proofs.Changes.Change.{restarted, covered-already, replaced, added, opened, passed}
 use Rattle.gateway_rules.proofs.Bounds.{bounded-in, bounded-start}
 use Rattle.gateway_rules.proofs.Hearing.{history-left}

@@ -1,13 +1,12 @@
 -- One line inside another: what it holds the other holds, and it is of the same port and node.
 use Prim.Native.Nat.{ℕ}
-use mathlib.Core.Path.{_≡_, refl, sym, ap, ap₂, _∙_}
+use mathlib.Core.Path.{_≡_, refl, sym, ap, _∙_}
 use mathlib.Core.Bool.{Bool, true, _&&_, _||_, or-true}
 use mathlib.Core.List.{List, [], _∷_, _++_}
 use borrow.Author.Tests.{eqb-true, eq-eqb}
 use lib.Dec.{eqb}
 use Rattle.range.specs.Range.{inBlock, inside}
 use Rattle.range.proofs.Comparing.{inside-holds, inside-self, inside-more}
-use Rattle.basics.specs.Lists.{any}
 use Rattle.basics.proofs.Lists.{any-append}
 use Rattle.basics.proofs.Bools.{both}
 use Rattle.gateway_rules.specs.declared.Line.{Line}

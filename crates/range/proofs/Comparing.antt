@@ -1,20 +1,19 @@
 -- R5: what comparing two blocks answers is true of their events, and nothing else is; once over k, from R4.
-use Prim.Native.Nat.{ℕ, _-_, _+_, _*_, _/_, _^_, _≤_, _<_}
+use Prim.Native.Nat.{ℕ, _*_, _/_, _^_, _≤_, _<_}
 use mathlib.Core.Path.{_≡_, refl, sym, ap, ap₂, _∙_, subst}
 use mathlib.Core.Logic.{_↔_, _⊎_, ⊎-elim}
-use mathlib.Core.Bool.{Bool, true, false, cond, _&&_, true≢false}
+use mathlib.Core.Bool.{Bool, true, false, _&&_, true≢false}
 use native.Mathlib.Nat.{le-refl, le-trans}
 use native.Mathlib.Omega.{arith}
-use borrow.Author.Tests.{leb-true, leb-false, le-leb, lt-leb, eqb-true}
+use borrow.Author.Tests.{leb-true, leb-false, le-leb}
 use lib.Dec.{leb, eqb}
 use lib.Pow.{pow-pos, pow-lt}
 use Rattle.basics.proofs.Bools.{both, same-truth}
 use Rattle.range.specs.declared.Block.{Block}
 use Rattle.range.specs.declared.Comparison.{Comparison}
 use Rattle.range.specs.declared.Comparison.the-variants.{Equal, FirstInside, SecondInside, Apart, NoBlock}
-use Rattle.range.specs.Range.{isBlock, inBlock, last, inside, Inside, Apart as NoneOfBoth}
-use Rattle.range.specs.Comparing.{lying, comparison, comparisonTold, Blocks, Lies}
-use Rattle.range.specs.Answer.{Barred}
+use Rattle.range.specs.Range.{isBlock, inBlock, last, inside, Inside}
+use Rattle.range.specs.Comparing.{lying, comparison, Blocks, Lies}
 use Rattle.range.proofs.Laws.{in-block-between, in-block-above}
 use Rattle.range.proofs.Nested.{inside-or-apart, nested-or-apart}
 use Rattle.range.proofs.Refusals.{either-fails, barred-exactly}

@@ -16,7 +16,7 @@ prefix-requires c κs = block-parts (c .before .before .args .b) (c .before .bef
 
 returns-2 : tie.Need-returns-2
 returns-2 c =
-    ap (λ (x : ℕ). eqb x (c .before .before .before .args .b .start)) (c .prefix .ensures) ∙ sym (inside-by-start (c .before .before .before .args .a) (c .before .before .before .args .b) (c .before .before .before .pre .0) (c .before .before .before .pre .1) (c .before .if1 .left))
+    ap (λ (x : ℕ). eqb x (c .before .before .before .args .b .start)) (c .prefix .ensures) ∙ sym (inside-by-start (c .before .before .before .args .a) (c .before .before .before .args .b) (c .before .before .before .pre .0) (c .before .before .before .pre .1) (omega (arith, c .before .if1 .left)))
 
 pub inside-spec : {M : Type 1} → statement M
 inside-spec = tie.close (tie.spec returns prefix-requires returns-2)

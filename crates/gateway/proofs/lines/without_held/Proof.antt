@@ -3,7 +3,6 @@ use Prim.Native.Nat.{ℕ, _-_, _≤_, _<_}
 use mathlib.Core.Path.{_≡_, sym, ap, _∙_}
 use native.Mathlib.Nat.{le-refl}
 use native.Mathlib.Omega.{arith}
-use borrow.Author.Needs.{needs}
 use Rattle.gateway.specs.State.{lists, linesIn, held}
 use Rattle.gateway_rules.specs.Step.{heldBy}
 use Rattle.basics.specs.Lists.{without}
@@ -27,7 +26,7 @@ loop-holds c =
     let a = c .before .before .before .before .before .before .before .before .before .args in
     let t = held (a .nodes) (a .starts) (a .ports) (a .sizes) in
     let none = c .before-held .ensures in
-    (none .0, omega arith, none-gone (heldBy (a .l)) t (c .before-held .result) (c .before .before .before .before .before .before .before .before .before .pre .1 .0) (none .1))
+    (omega (arith, none .0), omega arith, none-gone (heldBy (a .l)) t (c .before-held .result) (c .before .before .before .before .before .before .before .before .before .pre .1 .0) (none .1))
 
 line-at-requires : tie.Need-line-at-requires Inv-loop μ-loop
 line-at-requires c κs = (c .before .before .before .before .before .loop .inv .2 .whole, omega arith)
