@@ -1,5 +1,5 @@
-/* Two boards on one leg of a box: board 9 restarts, and what board 7 wants still comes to it. Then board 7 is carried to another leg. Prints a line a
- * message, and why the panel's report goes to a leg or does not. */
+/* Two boards on one leg of a box: board 9 restarts, and what board 7 wants still comes to it. Then board 7 is carried to another leg, and announces a
+ * range with its event, which takes the event's place in the table. Prints a line a message, and why the panel's report goes to a leg or does not. */
 #include <inttypes.h>
 #include <stdio.h>
 
@@ -10,6 +10,7 @@
 #define BOARD_9 UINT64_C(0x0A0000000009)
 #define PANEL UINT64_C(0x0A0000000001)
 #define POINTS UINT64_C(0x0A00000000070001)
+#define RANGE UINT64_C(0x0A000000000700FF)
 
 /* The box keeps nothing by itself: its state is ours, and each message changes it where it stands. */
 static hrislanoth_gateway box;
@@ -68,6 +69,14 @@ static void ask_why(uint8_t asked)
     printf("\n");
 }
 
+/* How the range and the event in it lie to each other. */
+static void compare(void)
+{
+    hrislanoth_block points = {.start = POINTS, .k = 0};
+    hrislanoth_number answer = hrislanoth_compare(hrislanoth_block_of(RANGE), points);
+    printf("the range beside the event: refusal %d, %" PRIu64 "\n", answer.refusal, answer.number);
+}
+
 int main(void)
 {
     hrislanoth_answer started = hrislanoth_start(4, HOUSE);
@@ -89,6 +98,11 @@ int main(void)
     ask_why(2);
     ask_why(3);
     ask_why(4);
+    compare();
+    with_event("board 7 announces the range", 3, 0x04A4, BOARD_7, RANGE);
+    with_event("board 7 announces again", 3, 0x04C4, BOARD_7, POINTS);
+    with_event("the panel reports", 0, 0x05B4, PANEL, POINTS);
+    ask_why(3);
     with_event("a node of zero", 0, 0x05B4, 0, POINTS);
     return 0;
 }
