@@ -17,6 +17,7 @@ use Rattle.gateway.specs.declared.state.Head.{Head}
 use Rattle.gateway.specs.State.{Lists, gateIn, lineAt, Whole, headWith, linesIn, putAt}
 use Rattle.gateway_rules.specs.Step.{heldBy, covered, holdsSome, withLines, replacing, storing, announce}
 use Rattle.basics.proofs.Sets.{set-below, member-of-set}
+use Rattle.gateway_rules.proofs.Changes.{covered-keeps, holding-replaces, new-stores}
 use Rattle.gateway.proofs.Places.{put-last}
 use Rattle.basics.proofs.Each.{each-length}
 
@@ -58,16 +59,16 @@ left-alone head t marks count (m, n) = λ i. gateIn (headWith head (m i) (n i)) 
 
 module _ (head : Head) (t : Lists) (l : Line) where
   pub covered-line : covered (linesIn (head .count) t) l ≡ true → gateIn head t ≡ announce (gateIn head t) l
-  unfolding announce gateIn
-  covered-line y = rw y
+  unfolding gateIn
+  covered-line y = sym (covered-keeps (gateIn head t) l y)
 
   pub holding-line : covered (linesIn (head .count) t) l ≡ false → holdsSome (linesIn (head .count) t) l ≡ true → replacing (gateIn head t) l ≡ announce (gateIn head t) l
-  unfolding announce gateIn
-  holding-line n y = rw (n, y)
+  unfolding gateIn
+  holding-line n y = sym (holding-replaces (gateIn head t) l n y)
 
   pub new-line : covered (linesIn (head .count) t) l ≡ false → holdsSome (linesIn (head .count) t) l ≡ false → storing (gateIn head t) l ≡ announce (gateIn head t) l
-  unfolding announce gateIn
-  new-line n y = rw (n, y)
+  unfolding gateIn
+  new-line n y = sym (new-stores (gateIn head t) l n y)
 
   -- Fewer stay than there were, and the line is put behind them.
   pub fewer-kept : (after : Lists) (kept : ℕ) → linesIn kept after ≡ without (heldBy l) (linesIn (head .count) t) → holdsSome (linesIn (head .count) t) l ≡ true → kept < head .count

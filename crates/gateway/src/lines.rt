@@ -1,5 +1,6 @@
 // The lines of the table, which stand in four lists.
 ghost use mathlib.Core.Path.{_≡_};
+ghost use mathlib.Core.Logic.{_⊎_};
 ghost use mathlib.Core.Bool.{true, false};
 ghost use Prim.Native.Nat.{_≤_, _<_};
 ghost use Rattle.range.specs.Range.{isBlock};
@@ -122,6 +123,7 @@ fn before_held(
     requires { ⌜ isBlock (l .block) ≡ true ⌝ }
     requires { ⌜ any noBlock (linesIn count (held nodes starts ports sizes)) ≡ false ⌝ }
     ensures { λ n. ⌜ (n ≤ count) × (holdsSome (linesIn n (entered nodes starts ports sizes)) l ≡ false) ⌝ }
+    ensures { λ n. ⌜ (n ≡ count) ⊎ (heldBy l (lineAt (entered nodes starts ports sizes) n) ≡ true) ⌝ }
 {
     let mut i = 0;
     while i < count {

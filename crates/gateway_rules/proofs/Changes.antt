@@ -23,6 +23,23 @@ use Rattle.gateway_rules.specs.Step.{line, within, covered, holdsSome, o
 use Rattle.gateway_rules.specs.History.{Heard, leftBy, changing}
 use Rattle.gateway_rules.proofs.Within.{inner}
 
+-- ---- an announcement
+
+pub covered-keeps : (g : Gate) (l : Line) → covered (g .lines) l ≡ true → announce g l ≡ g
+unfolding announce
+covered-keeps g l c = rw c
+
+-- Full or not: the open marks stay, as `replacing` has it.
+pub holding-replaces : (g : Gate) (l : Line) → covered (g .lines) l ≡ false → holdsSome (g .lines) l ≡ true → announce g l ≡ replacing g l
+unfolding announce
+holding-replaces g l c h = rw (c, h)
+
+pub new-stores : (g : Gate) (l : Line) → covered (g .lines) l ≡ false → holdsSome (g .lines) l ≡ false → announce g l ≡ storing g l
+unfolding announce
+new-stores g l c h = rw (c, h)
+
+-- ---- the view of the step
+
 -- Neither inside a line of that port and node nor holding one (document 02, W4).
 pub record New (g : Gate) (l : Line) : Type 0 where
   pub not-inside : covered (g .lines) l ≡ false

@@ -4,7 +4,7 @@ use mathlib.Core.Path.{_≡_, refl}
 use mathlib.Core.Bool.{true, false}
 use mathlib.Core.List.{List, [], _∷_, _++_}
 use lib.ListN.{length}
-use Rattle.range.specs.Range.{bitsEqual, run, isBlock, hasNumber, inBlock, inside, blockOf, house}
+use Rattle.range.specs.Range.{bitsEqual, run, isBlock, hasNumber, inBlock, inside, single, blockOf, house}
 use Rattle.numbers.specs.Numbers.{spelled, bytesOf}
 use Rattle.message.specs.Mti.{meaningOf}
 use Rattle.message.specs.Messages.{badNodes, badContent, otherSource}
@@ -13,8 +13,11 @@ use Rattle.message.specs.Saying.{saidBy}
 use Rattle.gateway_rules.specs.declared.Line.{Line}
 use Rattle.gateway_rules.specs.State.{Gate, outOfBounds, startOf}
 use Rattle.gateway_rules.specs.Step.{line, unnested, announce, taken, wants, goesTo, step}
-use Rattle.gateway_rules.specs.History.{Entry}
-use Rattle.gateway_rules.proofs.Entries.{entry, withEvent, printed, row}
+use Rattle.gateway_rules.specs.History.{Entry, Live}
+use Rattle.basics.specs.Since.Never.{nothing, nor}
+use Rattle.message.specs.declared.Field.the-variants.{Present}
+use Rattle.gateway_rules.proofs.Entries.{entry, withEvent, said, printed, row}
+use Rattle.gateway_rules.proofs.Holding.{no-restart}
 
 -- The line of 2^k events from a start on, which a node announced at a port.
 abbrev at : ℕ → ℕ → ℕ → ℕ → Line
@@ -90,6 +93,16 @@ pub full-replaced : (length (announce crowded (at 1 7 0 1) .lines) ≡ 255)
 unfolding announce inside
 full-replaced = (refl, refl, refl, refl)
 
+-- One that holds a single one of 256 lines: they are 256 again, it is the last of them, and the port stays closed.
+abbrev apartLast : Gate
+apartLast = box (events 255 ++ (at 1 7 1000 0 ∷ []))
+
+pub full-one-replaced : (announce apartLast (at 1 7 254 1) .lines ≡ events 254 ++ (at 1 7 1000 0 ∷ (at 1 7 254 1 ∷ [])))
+    × (length (announce apartLast (at 1 7 254 1) .lines) ≡ 256)
+    × (announce apartLast (at 1 7 254 1) .marked 1 ≡ false)
+unfolding announce inside
+full-one-replaced = (refl, refl, refl)
+
 -- One that is inside a line changes nothing.
 pub full-covered : (length (announce crowded (at 1 7 5 0) .lines) ≡ 256) × (announce crowded (at 1 7 5 0) .marked 1 ≡ false)
 unfolding announce inside
@@ -115,9 +128,35 @@ pub nested-in-bounds : (outOfBounds (box nested) ≡ false) × (unnested nested 
 unfolding outOfBounds isBlock hasNumber blockOf run bitsEqual unnested inside
 nested-in-bounds = (refl, refl)
 
--- What is inside one of its lines is not stored, what holds some replaces all of them, and what is new is added; the rest stays nested.
+-- What is inside one of its lines is not stored, although it holds another; what is inside none and holds some replaces all of them, and what is new is added; the rest stays nested.
 pub nested-answered : (announce (box nested) (at 1 7 17 0) .lines ≡ nested)
+    × (announce (box nested) (at 1 7 16 2) .lines ≡ nested)
     × (announce (box nested) (at 1 7 0 5) .lines ≡ at 2 8 0 0 ∷ at 1 7 0 5 ∷ [])
     × (announce (box nested) (at 1 7 32 0) .lines ≡ nested ++ (at 1 7 32 0 ∷ []))
 unfolding announce inside
-nested-answered = (refl, refl, refl)
+nested-answered = (refl, refl, refl, refl)
+
+-- ---- live as before
+
+-- The event 17 of board 7 at port 1 is live after its block was announced, in whose place its line went, and also where the block came first and it got no line.
+pub replaced-live : Live (said 1 0x04C4 7 (Present 17) ∷ said 1 0x04A4 7 (Present 16) ∷ []) 1 7 (single 17)
+unfolding Live saidBy meaningOf blockOf run bitsEqual
+replaced-live = record {
+  before = [];
+  by = said 1 0x04C4 7 (Present 17);
+  later = said 1 0x04A4 7 (Present 16) ∷ [];
+  split = refl;
+  started = record { here = refl; sender = refl; says = refl };
+  lasting = nor (no-restart (blockOf 16) refl) nothing;
+}
+
+pub covered-live : Live (said 1 0x04A4 7 (Present 16) ∷ said 1 0x04C4 7 (Present 17) ∷ []) 1 7 (single 17)
+unfolding Live saidBy meaningOf
+covered-live = record {
+  before = said 1 0x04A4 7 (Present 16) ∷ [];
+  by = said 1 0x04C4 7 (Present 17);
+  later = [];
+  split = refl;
+  started = record { here = refl; sender = refl; says = refl };
+  lasting = nothing;
+}

@@ -4,9 +4,11 @@ use mathlib.Core.Bool.{cond}
 use mathlib.Core.List.{List, [], _∷_, _++_}
 use lib.ListN.{length}
 use Rattle.numbers.specs.Numbers.{bytesOf}
+use Rattle.message.specs.declared.Field.{Field}
+use Rattle.message.specs.declared.Field.the-variants.{Absent}
 use Rattle.gateway_rules.specs.State.{Gate}
 use Rattle.gateway_rules.specs.Step.{step}
-use Rattle.gateway_rules.specs.History.{Entry}
+use Rattle.gateway_rules.specs.History.{Entry, Heard}
 
 abbrev pub entry : ℕ → List ℕ → Entry
 entry port bytes = record { port = port; bytes = bytes }
@@ -16,6 +18,10 @@ withEvent mti source event = bytesOf 2 mti ++ (bytesOf 6 source ++ bytesOf 8 eve
 
 abbrev pub initialized : ℕ → List ℕ
 initialized node = bytesOf 2 0x0100 ++ (bytesOf 6 node ++ bytesOf 6 node)
+
+-- A message heard at a port, with an event or without.
+abbrev pub said : ℕ → ℕ → ℕ → Field → Heard
+said port mti node event = record { port = port; message = record { mti = mti; source = node; destination = Absent; event = event } }
 
 -- What is printed of an entry: the refusal, a digit for each of four ports, and the lines in the table.
 pub record Printed : Type 0 where

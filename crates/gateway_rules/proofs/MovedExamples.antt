@@ -7,7 +7,6 @@ use native.Mathlib.Omega.{arith}
 use lib.Dec.{eqb}
 use Rattle.numbers.specs.Numbers.{spelled, bytesOf}
 use Rattle.range.specs.Range.{bitsEqual, run, isBlock, hasNumber, inBlock, single, blockOf, house, inside}
-use Rattle.message.specs.declared.Field.{Field}
 use Rattle.message.specs.declared.Field.the-variants.{Present, Absent}
 use Rattle.message.specs.declared.Saying.the-variants.{Restart}
 use Rattle.message.specs.Mti.{meaningOf}
@@ -17,8 +16,8 @@ use Rattle.message.specs.Saying.{saidBy}
 use Rattle.basics.specs.Since.Never.{nothing, nor}
 use Rattle.gateway_rules.specs.State.{Gate, outOfBounds, startOf}
 use Rattle.gateway_rules.specs.Step.{line, announce, hear, taken, wants, goesTo, step}
-use Rattle.gateway_rules.specs.History.{Entry, Heard, Restarts, Live}
-use Rattle.gateway_rules.proofs.Entries.{entry, withEvent, initialized, printed, row}
+use Rattle.gateway_rules.specs.History.{Entry, Restarts, Live}
+use Rattle.gateway_rules.proofs.Entries.{entry, withEvent, initialized, said, printed, row}
 
 -- A node's announcement of an event, its restart, and the panel's report of an event, which comes in by port 0.
 abbrev announces : ℕ → ℕ → ℕ → Entry
@@ -82,9 +81,6 @@ mixed = record {
 pub rest-in-order : (hear mixed 0 7 Restart .lines ≡ line 2 8 (single 70) ∷ line 1 9 (single 90) ∷ line 1 6 (single 70) ∷ line 1 8 (single 80) ∷ [])
     × (hear mixed 0 7 Restart .marked 2 ≡ true)
 rest-in-order = (refl, refl)
-
-abbrev said : ℕ → ℕ → ℕ → Field → Heard
-said port mti node event = record { port = port; message = record { mti = mti; source = node; destination = Absent; event = event } }
 
 -- What board 7 announced at port 1 is live after board 8 has restarted there.
 pub not-ended : Live (said 1 0x04C4 7 (Present 70) ∷ said 1 0x0100 8 Absent ∷ []) 1 7 (single 70)

@@ -28,22 +28,22 @@ use Rattle.gateway_rules.proofs.Holding.{live-end, no-restart}
 
 -- A restart leaves those of other nodes; any other message leaves all, but for those that a line of its sender at its port holds.
 abbrev Changed : ℕ → Message → List Line → List Line → Type 0
-Changed q m lines later = ((saidBy m ≡ Restart) × (later ≡ without (ofNode (m .source)) lines)) ⊎ Gained q (m .source) lines later
+Changed q m lines later = ((saidBy m ≡ Restart) × (later ≡ without (ofNode (m .source)) lines)) ⊎ Gained q (m .source) (saidBy m) lines later
 
 lines-changed : (g : Gate) (q : ℕ) (m : Message) {g′ : Gate} → Change g q m g′ → Changed q m (g .lines) (g′ .lines)
 lines-changed g q m (restarted e) = inl (e, refl)
 lines-changed g q m (covered-already b e t) = inr (inl refl)
-lines-changed g q m (replaced b e f t) = inr (inr (b, refl))
+lines-changed g q m (replaced b e f t) = inr (inr (b, e, f, refl))
 lines-changed g q m (added b e n room) =
-    inr (inr (b, ap (λ (lines : List Line). lines ++ (line q (m .source) b ∷ [])) (sym (without-nothing (heldBy (line q (m .source) b)) (g .lines) (n .holds-none)))))
+    inr (inr (b, e, n .not-inside, ap (λ (lines : List Line). lines ++ (line q (m .source) b ∷ [])) (sym (without-nothing (heldBy (line q (m .source) b)) (g .lines) (n .holds-none)))))
 lines-changed g q m (opened b e n most) = inr (inl refl)
 lines-changed g q m (passed e) = inr (inl refl)
 
 -- By a test that the lines of the node at the port pass, the rest is as it was.
-rest-kept : (own : Line → Bool) (q n : ℕ) → ((l : Line) → l .port ≡ q → l .node ≡ n → own l ≡ true)
-    → (lines later : List Line) → Gained q n lines later → without own later ≡ without own lines
-rest-kept own q n passes lines later (inl e) = ap (without own) e
-rest-kept own q n passes lines later (inr (b, e)) =
+rest-kept : (own : Line → Bool) (q n : ℕ) (saying : Saying) → ((l : Line) → l .port ≡ q → l .node ≡ n → own l ≡ true)
+    → (lines later : List Line) → Gained q n saying lines later → without own later ≡ without own lines
+rest-kept own q n saying passes lines later (inl e) = ap (without own) e
+rest-kept own q n saying passes lines later (inr (b, says, outside, e)) =
     let l = line q n b in
     let rest = without (heldBy l) lines in
     ap (without own) e
@@ -57,7 +57,7 @@ rest-kept own q n passes lines later (inr (b, e)) =
 others-change : (g : Gate) (q : ℕ) (m : Message) {g′ : Gate} → Change g q m g′ → without (ofNode (m .source)) (g′ .lines) ≡ without (ofNode (m .source)) (g .lines)
 others-change g q m {g′} c =
     ⊎-elim (λ w. ap (without (ofNode (m .source))) (w .1) ∙ without-again (ofNode (m .source)) (g .lines))
-    (rest-kept (ofNode (m .source)) q (m .source) (λ l _ e. eq-eqb (l .node) (m .source) e) (g .lines) (g′ .lines))
+    (rest-kept (ofNode (m .source)) q (m .source) (saidBy m) (λ l _ e. eq-eqb (l .node) (m .source) e) (g .lines) (g′ .lines))
     (lines-changed g q m c)
 
 -- The lines of every other node are the same after a step, in the same order.
@@ -69,28 +69,28 @@ others-lines g q bytes =
 
 -- ---- the sender's own
 
--- A message that is no restart leaves the lines as they are, or puts one of its sender, at the port that it came in by, behind those that this one does not hold.
+-- A message that is no restart leaves the lines as they are, or puts what its sender announces, at the port that it came in by, behind those that this does not hold.
 pub only-own-lines : (g : Gate) (q : ℕ) (bytes : List ℕ) → (saidBy (messageIn bytes) ≡ Restart → ⊥)
-    → Gained q (messageIn bytes .source) (g .lines) (step g q bytes .next .lines)
+    → Gained q (messageIn bytes .source) (saidBy (messageIn bytes)) (g .lines) (step g q bytes .next .lines)
 only-own-lines g q bytes other =
     let m = messageIn bytes in
-    by-step g q bytes (λ (x : Gate). Gained q (m .source) (g .lines) (x .lines)) (inl refl)
+    by-step g q bytes (λ (x : Gate). Gained q (m .source) (saidBy m) (g .lines) (x .lines)) (inl refl)
     (⊎-elim (λ w. absurd (other (w .0))) (λ gained. gained) (lines-changed g q m (change-of g q m)))
 
 -- So the lines of every other port are the same after it, in the same order.
 pub other-ports-lines : (g : Gate) (q : ℕ) (bytes : List ℕ) → (saidBy (messageIn bytes) ≡ Restart → ⊥)
     → without (atPort q) (step g q bytes .next .lines) ≡ without (atPort q) (g .lines)
 other-ports-lines g q bytes other =
-    rest-kept (atPort q) q (messageIn bytes .source) (λ l e _. eq-eqb (l .port) q e) (g .lines) (step g q bytes .next .lines) (only-own-lines g q bytes other)
+    rest-kept (atPort q) q (messageIn bytes .source) (saidBy (messageIn bytes)) (λ l e _. eq-eqb (l .port) q e) (g .lines) (step g q bytes .next .lines) (only-own-lines g q bytes other)
 
 -- And no event is forgotten: what a line held at a port, one holds there after it.
 pub nothing-forgotten : (g : Gate) (q : ℕ) (bytes : List ℕ) → (saidBy (messageIn bytes) ≡ Restart → ⊥)
     → (p e : ℕ) → any (lineHolds p e) (g .lines) ≡ true → any (lineHolds p e) (step g q bytes .next .lines) ≡ true
 nothing-forgotten g q bytes other p e t = go (only-own-lines g q bytes other)
   where
-    go : Gained q (messageIn bytes .source) (g .lines) (step g q bytes .next .lines) → any (lineHolds p e) (step g q bytes .next .lines) ≡ true
+    go : Gained q (messageIn bytes .source) (saidBy (messageIn bytes)) (g .lines) (step g q bytes .next .lines) → any (lineHolds p e) (step g q bytes .next .lines) ≡ true
     go (inl same) = ap (any (lineHolds p e)) same ∙ t
-    go (inr (b, more)) =
+    go (inr (b, says, outside, more)) =
         let l = line q (messageIn bytes .source) b in
         ap (any (lineHolds p e)) more ∙ any-replaced (lineHolds p e) (heldBy l) (g .lines) l (λ x h o. within-holds p e x l o h) t
 

@@ -1,7 +1,7 @@
 -- G2: from a start a state is always in bounds, and no line of a port and node is inside another (document 02, W4).
 use Prim.Native.Nat.{ℕ, _≤_}
 use mathlib.Core.Path.{_≡_, refl, sym, ap, ap₂, _∙_, subst}
-use mathlib.Core.Bool.{Bool, true, false, cond, not, _&&_, _||_, or-false}
+use mathlib.Core.Bool.{Bool, true, false, cond, not, _&&_, _||_, or-false, true≢false}
 use mathlib.Core.List.{List, [], _∷_, _++_}
 use borrow.Author.Tests.{not-true}
 use lib.ListN.{length}
@@ -14,6 +14,7 @@ use Rattle.gateway_rules.specs.declared.Line.{Line}
 use Rattle.gateway_rules.specs.State.{Gate, full, outOfBounds, startOf}
 use Rattle.gateway_rules.specs.Step.{line, within, heldBy, covered, holdsSome, unnested, ofNode, start}
 use Rattle.gateway_rules.specs.History.{Entry, after, Heard, accepted, leftBy}
+use Rattle.gateway_rules.proofs.Within.{within-self}
 use Rattle.gateway_rules.proofs.Changes.{Change, change-of, left-end}
 use Rattle.gateway_rules.proofs.Changes.Change.{restarted, covered-already, replaced, added, opened, passed}
 use Rattle.gateway_rules.proofs.Bounds.{bounded-in, bounded-start}
@@ -47,6 +48,12 @@ none-inside [] a between b later u =
     = λ test f. neither (test b) (any test later) (neither (any test between) (any test (b ∷ later)) (sym (any-append test between (b ∷ later)) ∙ f) .1) .0 in
     (at (within a) (w .0), at (heldBy a) (w .1))
 none-inside (x ∷ before) a between b later u = none-inside before a between b later (apart-from x (before ++ (a ∷ (between ++ (b ∷ later)))) u .2)
+
+-- So no two places have equal lines.
+pub none-equal : (before : List Line) (a : Line) (between : List Line) (b : Line) (later : List Line)
+    → unnested (before ++ (a ∷ (between ++ (b ∷ later)))) ≡ true → a ≡ b → ⊥
+none-equal before a between b later u e =
+    true≢false (sym (within-self b) ∙ ap (λ (x : Line). within x b) (sym e) ∙ none-inside before a between b later u .0)
 
 unnested-append : (lines : List Line) (l : Line) → unnested lines ≡ true → covered lines l ≡ false → holdsSome lines l ≡ false → unnested (lines ++ (l ∷ [])) ≡ true
 unnested-append [] l u c h = put-before l [] refl refl none-unnested

@@ -24,7 +24,7 @@ inner a b t =
     let k = both (eqb (a .node) (b .node)) (inside (a .block) (b .block)) (h .1) in
     record { port = eqb-true (a .port) (b .port) (h .0); node = eqb-true (a .node) (b .node) (k .0); block = k .1 }
 
-inner-passes : (a b : Line) → Inner a b → within a b ≡ true
+pub inner-passes : (a b : Line) → Inner a b → within a b ≡ true
 inner-passes a b i = rw (eq-eqb (a .port) (b .port) (i .port), eq-eqb (a .node) (b .node) (i .node), i .block)
 
 pub within-self : (l : Line) → within l l ≡ true

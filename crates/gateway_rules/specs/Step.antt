@@ -44,9 +44,11 @@ unfoldable pub unnested : List Line → Bool
 unnested [] = true
 unnested (l ∷ lines) = not (covered lines l || holdsSome lines l) && unnested lines
 
--- The lines stay as they were, or one of a node at a port stands behind those that it does not hold.
-abbrev pub Gained : ℕ → ℕ → List Line → List Line → Type 0
-Gained port node lines later = (later ≡ lines) ⊎ ((b : Block) × (later ≡ without (heldBy (line port node b)) lines ++ (line port node b ∷ [])))
+-- What a message that is no restart does to the lines: they stay as they were, or what its node announces at its port, which was inside none of them, stands behind those that it does not hold.
+abbrev pub Gained : ℕ → ℕ → Saying → List Line → List Line → Type 0
+Gained port node saying lines later =
+    (later ≡ lines)
+    ⊎ ((b : Block) × (saying ≡ Announcement b) × (covered lines (line port node b) ≡ false) × (later ≡ without (heldBy (line port node b)) lines ++ (line port node b ∷ [])))
 
 -- The lines of a node, at whichever port; those of a port, of whichever node.
 abbrev pub ofNode : ℕ → Line → Bool

@@ -13,7 +13,9 @@ use Rattle.range.specs.declared.Block.{Block}
 use Rattle.range.specs.declared.Comparison.{Comparison}
 use Rattle.range.specs.declared.Comparison.the-variants.{Equal, FirstInside, SecondInside, Apart, NoBlock}
 use Rattle.range.specs.Range.{isBlock, inBlock, last, inside, Inside}
-use Rattle.range.specs.Comparing.{lying, comparison, Blocks, Lies}
+use Rattle.range.specs.Comparing.{lying, comparison, comparisonTold, Blocks, Lies}
+use Rattle.range.specs.Answer.{Barred}
+use Rattle.basics.specs.Refusals.{Told, told, refused}
 use Rattle.range.proofs.Laws.{in-block-between, in-block-above}
 use Rattle.range.proofs.Nested.{inside-or-apart, nested-or-apart}
 use Rattle.range.proofs.Refusals.{either-fails, barred-exactly}
@@ -149,8 +151,29 @@ pub compared-exactly : (a b : Block) (c : Comparison) → (comparison a b ≡ c)
 compared-exactly a b c = (λ e. subst (Lies a b) e (lies-so a b), answered-so a b c)
 
 -- So exactly one of the answers is true.
-pub lies-once : (a b : Block) (c d : Comparison) → Lies a b c → Lies a b d → c ≡ d
-lies-once a b c d x y = sym (answered-so a b c x) ∙ answered-so a b d y
+pub one-lies : (a b : Block) → (c : Comparison) × Lies a b c × ((d : Comparison) → Lies a b d → d ≡ c)
+one-lies a b = (comparison a b, lies-so a b, λ d l. sym (answered-so a b d l))
+
+-- In numbers: 14 exactly when document 01 says, and the four answers from 1 on.
+told-14 : (c : Comparison) → comparisonTold c .refusal ≡ 14 → c ≡ NoBlock
+told-14 Equal e = let z : ⊥ = omega (arith, e) in absurd z
+told-14 FirstInside e = let z : ⊥ = omega (arith, e) in absurd z
+told-14 SecondInside e = let z : ⊥ = omega (arith, e) in absurd z
+told-14 Apart e = let z : ⊥ = omega (arith, e) in absurd z
+told-14 NoBlock e = refl
+
+pub comparison-14 : (a b : Block) → (comparisonTold (comparison a b) .refusal ≡ 14) ↔ (Barred a ⊎ Barred b)
+comparison-14 a b = (
+  λ e. compared-exactly a b NoBlock .0 (told-14 (comparison a b) e),
+  λ either. ap (λ (c : Comparison). comparisonTold c .refusal) (answered-so a b NoBlock either),
+)
+
+abbrev numbered : ℕ → ℕ → ℕ → ℕ → Told ℕ
+numbered start k other j = comparisonTold (comparison (record { start = start; k = k }) (record { start = other; k = j }))
+
+pub each-number : (numbered 4 2 4 2 ≡ told 1) × (numbered 6 1 4 2 ≡ told 2) × (numbered 4 2 6 1 ≡ told 3) × (numbered 4 2 8 2 ≡ told 4) × (numbered 2 2 4 2 ≡ refused 14 0) × (numbered 4 2 0 65 ≡ refused 14 0)
+unfolding comparison isBlock inside
+each-number = (refl, refl, refl, refl, refl, refl)
 
 -- Equal blocks are the same start and size.
 pub equal-same : (a b : Block) → (comparison a b ≡ Equal) ↔ (Blocks a b × (a ≡ b))

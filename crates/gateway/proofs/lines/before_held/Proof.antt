@@ -1,6 +1,7 @@
 -- None of the lines before place i is held.
 use Prim.Native.Nat.{_-_, _≤_}
 use mathlib.Core.Path.{_≡_, ap, _∙_}
+use mathlib.Core.Logic.{inl, inr}
 use mathlib.Core.Bool.{false}
 use native.Mathlib.Omega.{arith}
 use Rattle.basics.specs.Lists.{any}
@@ -32,7 +33,10 @@ within-requires c κs =
     (block-at (a .count) t (c .before .before .loop .i) (c .before .before .before .before .before .before .before .pre .1 .1 .1) (omega arith) (c .line-at .ensures), c .before .before .before .before .before .before .before .pre .1 .1 .0)
 
 returns : tie.Need-returns Inv-loop μ-loop
-returns c = c .before .before .before .before .loop .inv
+returns c =
+    let a = c .before .before .before .before .before .before .before .before .before .args in
+    let t = held (a .nodes) (a .starts) (a .ports) (a .sizes) in
+    (c .before .before .before .before .loop .inv, inr (line-tells (heldBy (a .l)) (lineAt t (c .before .before .before .before .loop .i)) (c .before .before .line-at .ensures) (c .before .within .ensures) (c .if1 .taken)))
 
 add-i : tie.Need-add-i Inv-loop μ-loop
 add-i c = omega arith
@@ -48,7 +52,9 @@ loop-again c =
     (omega arith, not-more (heldBy (a .l)) (c .before .before .before .before .loop .i) (lineAt t) free ∙ c .before .before .before .before .loop .inv .1)
 
 returns-2 : tie.Need-returns-2 Inv-loop μ-loop
-returns-2 c = c .before .loop .inv
+returns-2 c =
+    let all : c .before .loop .i ≡ c .before .before .before .before .before .before .args .count = omega arith in
+    (c .before .loop .inv, inl all)
 
 pub before-held-spec : {M : Type 1} → statement M
 before-held-spec =

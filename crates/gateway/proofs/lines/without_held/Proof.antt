@@ -25,7 +25,7 @@ loop-holds : tie.Need-loop-holds Inv-loop μ-loop
 loop-holds c =
     let a = c .before .before .before .before .before .before .before .before .before .args in
     let t = held (a .nodes) (a .starts) (a .ports) (a .sizes) in
-    let none = c .before-held .ensures in
+    let none = c .before-held .ensures .0 in
     (omega (arith, none .0), omega arith, none-gone (heldBy (a .l)) t (c .before-held .result) (c .before .before .before .before .before .before .before .before .before .pre .1 .0) (none .1))
 
 line-at-requires : tie.Need-line-at-requires Inv-loop μ-loop
