@@ -6,6 +6,7 @@ mod records;
 
 ghost use mathlib.Core.Path.{_≡_};
 ghost use lib.ListN.{drop};
+ghost use Rattle.basics.specs.Refusals.{refused};
 ghost use Rattle.range.specs.Range.{blockOf};
 ghost use Rattle.range.specs.Answer.{numberTold};
 ghost use Rattle.range.specs.Comparing.{comparison, comparisonTold};
@@ -73,10 +74,7 @@ pub extern "C" fn hrislanoth_number_of(block: Block) -> FlatNumber
 {
     match range::number_of(block) {
         RangeNumber::Number(number) => FlatNumber { refusal: 0, number },
-        RangeNumber::NoNumber => FlatNumber {
-            refusal: 14,
-            number: 0,
-        },
+        RangeNumber::NoNumber => no_range(),
     }
 }
 
@@ -89,14 +87,18 @@ pub extern "C" fn hrislanoth_compare(first: Block, second: Block) -> FlatNumber
         Comparison::FirstInside => 2,
         Comparison::SecondInside => 3,
         Comparison::Apart => 4,
-        Comparison::NoBlock => {
-            return FlatNumber {
-                refusal: 14,
-                number: 0,
-            }
-        }
+        Comparison::NoBlock => return no_range(),
     };
     FlatNumber { refusal: 0, number }
+}
+
+fn no_range() -> FlatNumber
+    ensures { λ n. ⌜ n ≡ toldNumber (refused 14 0) ⌝ }
+{
+    FlatNumber {
+        refusal: 14,
+        number: 0,
+    }
 }
 
 #[no_mangle]

@@ -25,9 +25,12 @@ enum-told-4 c = search needs
 enum-told-5 : tie.Need-enum-told-5
 enum-told-5 c = search needs
 
+no-range-requires : tie.Need-no-range-requires
+no-range-requires c κs = search needs
+
 returns : tie.Need-returns
 returns c =
-    ap (λ (r : Comparison). toldNumber (comparisonTold r)) (sym (c .enum-told5 .given .1) ∙ c .before .before .compare .ensures)
+    c .no-range .ensures ∙ ap (λ (r : Comparison). toldNumber (comparisonTold r)) (sym (c .before .enum-told5 .given .1) ∙ c .before .before .before .compare .ensures)
 
 returns-2 : tie.Need-returns-2
 returns-2 c =
@@ -55,6 +58,7 @@ hrislanoth-compare-spec =
     enum-told-3
     enum-told-4
     enum-told-5
+    no-range-requires
     returns
     returns-2
     returns-3
