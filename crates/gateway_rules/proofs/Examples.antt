@@ -1,5 +1,5 @@
 -- That nothing above is vacuous, by computation: document 01's example, a live announcement, and a table that fills.
-use Prim.Native.Nat.{ℕ, zero, suc}
+use Prim.Native.Nat.{ℕ, zero, suc, _+_}
 use mathlib.Core.Path.{_≡_, refl}
 use mathlib.Core.Bool.{true, false}
 use mathlib.Core.List.{List, [], _∷_, _++_}
@@ -43,14 +43,15 @@ seven-lines = refl
 abbrev board : ℕ
 board = 0x0A0000000001
 
+-- Each by another node, so that lines are compared by their Node IDs alone.
 abbrev announcement : ℕ → Heard
-announcement e = record { port = 1; message = record { mti = 0x04C4; source = board; destination = Absent; event = Present e } }
+announcement e = record { port = 1; message = record { mti = 0x04C4; source = board + e; destination = Absent; event = Present e } }
 
 abbrev announcements : ℕ → List Heard
 announcements zero = []
 announcements (suc n) = announcements n ++ (announcement n ∷ [])
 
-pub something-live : Live (announcements 3) 1 board (single 1)
+pub something-live : Live (announcements 3) 1 (board + 1) (single 1)
 unfolding Live saidBy meaningOf
 something-live = record {
   before = announcement 0 ∷ [];
