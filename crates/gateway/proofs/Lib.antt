@@ -1,5 +1,6 @@
 pub mod Answering
 mod Bits
+mod Going
 mod Held
 mod InBounds
 mod Kept

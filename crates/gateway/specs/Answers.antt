@@ -1,7 +1,7 @@
 -- What the code's answer says: the refusal, the set of ports as a number, and the state without the places past the count.
 use Prim.Native.Nat.{ℕ}
 use mathlib.Core.Path.{_≡_}
-use mathlib.Core.Bool.{Bool, true, cond, not, _||_}
+use mathlib.Core.Bool.{Bool, true, false, cond, not, _||_}
 use mathlib.Core.List.{List}
 use lib.Dec.{eqb}
 use lib.ListN.{length}
@@ -16,14 +16,16 @@ use Rattle.message.specs.Reading.{readingTold}
 use Rattle.message.specs.Saying.{saidBy}
 use Rattle.gateway_rules.specs.declared.Line.{Line}
 use Rattle.gateway_rules.specs.State.{Gate, full}
-use Rattle.gateway_rules.specs.Step.{Outcome, covered, holdsSome, lineHolds, wantedAt, refusing, step}
+use Rattle.gateway_rules.specs.Step.{Outcome, covered, heldBy, holdsSome, lineHolds, ofNode, wantedAt, refusing, step}
 use Rattle.gateway.specs.declared.Answer.{Answer}
 use Rattle.gateway.specs.declared.LentAnswer.{LentAnswer}
 use Rattle.gateway.specs.declared.state.Head.{Head}
 use Rattle.gateway.specs.declared.state.Gateway.{Gateway}
+use Rattle.gateway.specs.declared.lines.Gone.{Gone}
+use Rattle.gateway.specs.declared.lines.Gone.the-variants.{OfNode, HeldBy}
 use Rattle.gateway.specs.declared.lines.Standing.{Standing}
 use Rattle.gateway.specs.declared.lines.Standing.the-variants.{Covered, Holding, New}
-use Rattle.gateway.specs.State.{Lists, gateIn, gateOf, headWith}
+use Rattle.gateway.specs.State.{Lists, gateIn, gateOf, headWith, noBlock}
 
 pub record Seen : Type 0 where
   pub refusal : ℕ
@@ -80,3 +82,13 @@ AnnouncesBlock s = (b : Block) → s ≡ Announcement b → isBlock b ≡ true
 -- How a line stands to those of a table: inside one of them, else holding some, else new (document 02, W4).
 abbrev pub standsAs : List Line → Line → Standing
 standsAs lines l = cond (covered lines l) Covered (cond (holdsSome lines l) Holding New)
+
+-- Which lines are taken out: those of a node at its restart, or those that an announced line holds.
+abbrev pub goesBy : Gone → Line → Bool
+goesBy (OfNode node) = ofNode node
+goesBy (HeldBy l) = heldBy l
+
+-- Where lines go by their blocks, all of them are blocks.
+abbrev pub Comparable : Gone → List Line → Type 0
+Comparable (OfNode node) lines = Unit {0}
+Comparable (HeldBy l) lines = (isBlock (l .block) ≡ true) × (any noBlock lines ≡ false)

@@ -2,11 +2,12 @@
 ghost use mathlib.Core.Path.{_≡_};
 ghost use mathlib.Core.Logic.{_⊎_};
 ghost use mathlib.Core.Bool.{true, false};
+ghost use mathlib.Core.List.{[], _∷_};
 ghost use Prim.Native.Nat.{_≤_, _<_};
 ghost use Rattle.range.specs.Range.{isBlock};
-ghost use Rattle.gateway_rules.specs.Step.{within as withinOf, heldBy, holdsSome, ofNode};
+ghost use Rattle.gateway_rules.specs.Step.{within as withinOf, heldBy, ofNode};
 ghost use Rattle.basics.specs.Lists.{any, without};
-ghost use Rattle.gateway.specs.Answers.{standsAs};
+ghost use Rattle.gateway.specs.Answers.{standsAs, goesBy, Comparable};
 ghost use Rattle.gateway.specs.State.{Whole, lineAt, linesIn, putAt, noBlock, held, entered, left};
 use gateway_rules::Line;
 use range::Block;
@@ -109,34 +110,29 @@ fn within(a: Line, b: Line) -> bool
     }
 }
 
-// How many lines stand before the first that one holds; the count where it holds none.
-fn before_held(
+// Which lines are taken out: those of a node, or those that a line holds.
+pub(crate) enum Gone {
+    OfNode(u64),
+    HeldBy(Line),
+}
+
+// Takes a node's lines out, and answers how many stay.
+pub(crate) fn without_node(
     count: usize,
-    nodes: &[u64],
-    starts: &[u64],
-    ports: &[u8],
-    sizes: &[u8],
-    l: Line,
+    nodes: &mut [u64],
+    starts: &mut [u64],
+    ports: &mut [u8],
+    sizes: &mut [u8],
+    node: u64,
 ) -> usize
     requires { ⌜ count ≤ 256 ⌝ }
     requires { ⌜ Whole (held nodes starts ports sizes) ⌝ }
-    requires { ⌜ isBlock (l .block) ≡ true ⌝ }
-    requires { ⌜ any noBlock (linesIn count (held nodes starts ports sizes)) ≡ false ⌝ }
-    ensures { λ n. ⌜ (n ≤ count) × (holdsSome (linesIn n (entered nodes starts ports sizes)) l ≡ false) ⌝ }
-    ensures { λ n. ⌜ (n ≡ count) ⊎ (heldBy l (lineAt (entered nodes starts ports sizes) n) ≡ true) ⌝ }
+    ensures { λ kept. ⌜ linesIn kept (left nodes starts ports sizes) ≡ without (ofNode node) (linesIn count (entered nodes starts ports sizes)) ⌝ }
 {
-    let mut i = 0;
-    while i < count {
-        let x = line_at(nodes, starts, ports, sizes, i);
-        if within(x, l) {
-            return i;
-        }
-        i += 1;
-    }
-    i
+    without(count, nodes, starts, ports, sizes, Gone::OfNode(node))
 }
 
-// Takes the lines out that one holds, and answers how many stay: one pass, the rest keeping their order, and those before the first that goes are not written.
+// Takes the lines out that one holds, and answers how many stay.
 pub(crate) fn without_held(
     count: usize,
     nodes: &mut [u64],
@@ -151,44 +147,70 @@ pub(crate) fn without_held(
     requires { ⌜ any noBlock (linesIn count (held nodes starts ports sizes)) ≡ false ⌝ }
     ensures { λ kept. ⌜ linesIn kept (left nodes starts ports sizes) ≡ without (heldBy l) (linesIn count (entered nodes starts ports sizes)) ⌝ }
 {
-    let first = before_held(count, nodes, starts, ports, sizes, l);
-    let mut i = first;
-    let mut j = first;
-    while i < count {
-        let x = line_at(nodes, starts, ports, sizes, i);
-        i += 1;
-        if within(x, l) {
-            continue;
-        }
-        put_line(nodes, starts, ports, sizes, j, x);
-        j += 1;
-    }
-    j
+    without(count, nodes, starts, ports, sizes, Gone::HeldBy(l))
 }
 
-// Takes a node's lines out, and answers how many stay: one pass, the rest keeping their order.
-pub(crate) fn without_node(
+// One pass, the rest keeping their order: nothing is written before the first that goes, and each that stays behind it once.
+fn without(
     count: usize,
     nodes: &mut [u64],
     starts: &mut [u64],
     ports: &mut [u8],
     sizes: &mut [u8],
-    node: u64,
+    gone: Gone,
 ) -> usize
     requires { ⌜ count ≤ 256 ⌝ }
     requires { ⌜ Whole (held nodes starts ports sizes) ⌝ }
-    ensures { λ kept. ⌜ linesIn kept (left nodes starts ports sizes) ≡ without (ofNode node) (linesIn count (entered nodes starts ports sizes)) ⌝ }
+    requires { ⌜ Comparable gone (linesIn count (held nodes starts ports sizes)) ⌝ }
+    ensures { λ kept. ⌜ linesIn kept (left nodes starts ports sizes) ≡ without (goesBy gone) (linesIn count (entered nodes starts ports sizes)) ⌝ }
 {
-    let mut i = 0;
-    let mut j = 0;
+    let first = before_gone(count, nodes, starts, ports, sizes, gone);
+    let mut i = first;
+    let mut j = first;
     while i < count {
         let l = line_at(nodes, starts, ports, sizes, i);
         i += 1;
-        if l.node == node {
+        if goes(l, gone) {
             continue;
         }
         put_line(nodes, starts, ports, sizes, j, l);
         j += 1;
     }
     j
+}
+
+// How many lines stand before the first that goes; the count where none goes.
+fn before_gone(
+    count: usize,
+    nodes: &[u64],
+    starts: &[u64],
+    ports: &[u8],
+    sizes: &[u8],
+    gone: Gone,
+) -> usize
+    requires { ⌜ count ≤ 256 ⌝ }
+    requires { ⌜ Whole (held nodes starts ports sizes) ⌝ }
+    requires { ⌜ Comparable gone (linesIn count (held nodes starts ports sizes)) ⌝ }
+    ensures { λ n. ⌜ (n ≤ count) × (any (goesBy gone) (linesIn n (entered nodes starts ports sizes)) ≡ false) ⌝ }
+    ensures { λ n. ⌜ (n ≡ count) ⊎ (goesBy gone (lineAt (entered nodes starts ports sizes) n) ≡ true) ⌝ }
+{
+    let mut i = 0;
+    while i < count {
+        let l = line_at(nodes, starts, ports, sizes, i);
+        if goes(l, gone) {
+            return i;
+        }
+        i += 1;
+    }
+    i
+}
+
+fn goes(l: Line, gone: Gone) -> bool
+    requires { ⌜ Comparable gone (l ∷ []) ⌝ }
+    ensures { λ yes. ⌜ yes ≡ goesBy gone l ⌝ }
+{
+    match gone {
+        Gone::OfNode(node) => l.node == node,
+        Gone::HeldBy(holder) => within(l, holder),
+    }
 }

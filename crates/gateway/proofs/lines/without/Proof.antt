@@ -4,29 +4,35 @@ use mathlib.Core.Path.{_≡_, sym, ap, _∙_}
 use native.Mathlib.Nat.{le-refl}
 use native.Mathlib.Omega.{arith}
 use Rattle.gateway.specs.State.{lists, linesIn, held}
-use Rattle.gateway_rules.specs.Step.{heldBy}
+use Rattle.gateway.specs.Answers.{goesBy}
 use Rattle.basics.specs.Lists.{without}
-use Rattle.gateway.proofs.Places.{block-at}
+use Rattle.gateway.proofs.Going.{comparable-at}
 use Rattle.gateway.proofs.Kept.{Kept, none-gone, passed-over, kept-here}
-use Rattle.gateway.proofs.lines.without_held.Statement.{statement}
-use Rattle.gateway.proofs.lines.without_held.Tie as tie
+use Rattle.gateway.proofs.lines.without.Statement.{statement}
+use Rattle.gateway.proofs.lines.without.Tie as tie
+use Rattle.gateway.proofs.lines.without.Reads as reads
+use Rattle.gateway.proofs.lines.without.Lts as lts
+use Rattle.gateway.proofs.lines.before_gone.Reads as before-gone-reads
+use Rattle.gateway.proofs.lines.goes.Reads as goes-reads
+use Rattle.gateway.proofs.lines.line_at.Reads as line-at-reads
+use Rattle.gateway.proofs.lines.put_line.Reads as put-line-reads
 
 abbrev Inv-loop : tie.InvT-loop
-Inv-loop count nodes₀ starts₀ ports₀ sizes₀ l first i₀ j₀ nodes starts ports sizes i j =
-    (i ≤ count) × (j ≤ i) × Kept (heldBy l) (lists nodes₀ starts₀ ports₀ sizes₀) (lists nodes starts ports sizes) i j
+Inv-loop count nodes₀ starts₀ ports₀ sizes₀ gone first i₀ j₀ nodes starts ports sizes i j =
+    (i ≤ count) × (j ≤ i) × Kept (goesBy gone) (lists nodes₀ starts₀ ports₀ sizes₀) (lists nodes starts ports sizes) i j
 
 abbrev μ-loop : tie.MeasureT-loop
-μ-loop count nodes₀ starts₀ ports₀ sizes₀ l first i₀ j₀ nodes starts ports sizes i j = count - i
+μ-loop count nodes₀ starts₀ ports₀ sizes₀ gone first i₀ j₀ nodes starts ports sizes i j = count - i
 
-before-held-requires : tie.Need-before-held-requires Inv-loop μ-loop
-before-held-requires c κs = c .before .before .before .before .before .before .before .before .pre
+before-gone-requires : tie.Need-before-gone-requires Inv-loop μ-loop
+before-gone-requires c κs = c .before .before .before .before .before .before .before .before .pre
 
 loop-holds : tie.Need-loop-holds Inv-loop μ-loop
 loop-holds c =
     let a = c .before .before .before .before .before .before .before .before .before .args in
     let t = held (a .nodes) (a .starts) (a .ports) (a .sizes) in
-    let none = c .before-held .ensures .0 in
-    (omega (arith, none .0), omega arith, none-gone (heldBy (a .l)) t (c .before-held .result) (c .before .before .before .before .before .before .before .before .before .pre .1 .0) (none .1))
+    let none = c .before-gone .ensures .0 in
+    (omega (arith, none .0), omega arith, none-gone (goesBy (a .gone)) t (c .before-gone .result) (c .before .before .before .before .before .before .before .before .before .pre .1 .0) (none .1))
 
 line-at-requires : tie.Need-line-at-requires Inv-loop μ-loop
 line-at-requires c κs = (c .before .before .before .before .before .loop .inv .2 .whole, omega arith)
@@ -34,13 +40,13 @@ line-at-requires c κs = (c .before .before .before .before .before .loop .inv .
 add-i : tie.Need-add-i Inv-loop μ-loop
 add-i c = omega arith
 
-within-requires : tie.Need-within-requires Inv-loop μ-loop
-within-requires c κs =
+goes-requires : tie.Need-goes-requires Inv-loop μ-loop
+goes-requires c κs =
     let a = c .before .before .before .before .before .before .before .before .before .before .before .before .before .before .before .before .args in
     let t = held (a .nodes) (a .starts) (a .ports) (a .sizes) in
     let s = c .before .before .before .before .before .before .loop in
     let here = c .line-at .ensures ∙ s .inv .2 .rest (s .i) (le-refl (s .i)) in
-    (block-at (a .count) t (s .i) (c .before .before .before .before .before .before .before .before .before .before .before .before .before .before .before .before .pre .1 .1 .1) (omega arith) here, c .before .before .before .before .before .before .before .before .before .before .before .before .before .before .before .before .pre .1 .1 .0)
+    comparable-at (a .gone) (a .count) t (s .i) (c .before .before .before .before .before .before .before .before .before .before .before .before .before .before .before .before .pre .1 .1) (omega arith) here
 
 loop-less : tie.Need-loop-less Inv-loop μ-loop
 loop-less c = omega arith
@@ -51,7 +57,7 @@ loop-again c =
     let t = held (a .nodes) (a .starts) (a .ports) (a .sizes) in
     let s = c .before .before .before .before .before .before .before .before .loop in
     let there = lists (s .nodes) (s .starts) (s .ports) (s .sizes) in
-    (omega arith, omega arith, passed-over (heldBy (a .l)) t there (s .i) (s .j) (c .before .before .line-at .result) (s .inv .2) (c .before .before .line-at .ensures) (sym (c .before .within .ensures) ∙ c .if1 .taken))
+    (omega arith, omega arith, passed-over (goesBy (a .gone)) t there (s .i) (s .j) (c .before .before .line-at .result) (s .inv .2) (c .before .before .line-at .ensures) (sym (c .before .goes .ensures) ∙ c .if1 .taken))
 
 put-line-requires : tie.Need-put-line-requires Inv-loop μ-loop
 put-line-requires c κs = (c .before .before .before .before .before .before .before .before .before .before .before .before .loop .inv .2 .whole, omega arith)
@@ -69,7 +75,7 @@ loop-again-2 c =
     let s = c .before .before .before .before .before .before .before .before .before .before .before .before .before .before .before .before .before .before .before .before .before .loop in
     let there = lists (s .nodes) (s .starts) (s .ports) (s .sizes) in
     let room : s .i < 256 = omega (arith, c .before .before .before .before .before .before .before .before .before .before .before .before .before .before .before .before .before .before .before .before .loop-test .taken, c .before .before .before .before .before .before .before .before .before .before .before .before .before .before .before .before .before .before .before .before .before .before .before .before .before .before .before .before .before .before .before .pre .0) in
-    (omega arith, omega arith, kept-here (heldBy (a .l)) t there (s .i) (s .j) (c .before .before .before .before .before .before .before .before .before .before .before .before .before .before .before .line-at .result) (s .inv .2) (c .before .before .before .before .before .before .before .before .before .before .before .before .before .before .before .line-at .ensures) _ (sym (c .before .before .before .before .before .before .before .before .before .before .before .before .before .before .within .ensures) ∙ c .before .before .before .before .before .before .before .before .before .before .before .before .before .if1 .left) (s .inv .1) room (c .before .before .before .before .before .before .before .before .put-line .ensures))
+    (omega arith, omega arith, kept-here (goesBy (a .gone)) t there (s .i) (s .j) (c .before .before .before .before .before .before .before .before .before .before .before .before .before .before .before .line-at .result) (s .inv .2) (c .before .before .before .before .before .before .before .before .before .before .before .before .before .before .before .line-at .ensures) _ (sym (c .before .before .before .before .before .before .before .before .before .before .before .before .before .before .goes .ensures) ∙ c .before .before .before .before .before .before .before .before .before .before .before .before .before .if1 .left) (s .inv .1) room (c .before .before .before .before .before .before .before .before .put-line .ensures))
 
 same-length : tie.Need-same-length Inv-loop μ-loop
 same-length c = c .before .loop .inv .2 .whole .0 ∙ sym (c .before .before .before .before .before .before .before .before .before .before .before .pre .1 .0 .0)
@@ -89,19 +95,19 @@ returns c =
     let t = held (a .nodes) (a .starts) (a .ports) (a .sizes) in
     let s = c .before .loop in
     let all : s .i ≡ a .count = omega arith in
-    s .inv .2 .stay ∙ ap (λ (k : ℕ). without (heldBy (a .l)) (linesIn k t)) all
+    s .inv .2 .stay ∙ ap (λ (k : ℕ). without (goesBy (a .gone)) (linesIn k t)) all
 
-pub without-held-spec : {M : Type 1} → statement M
-without-held-spec =
+pub without-spec : {M : Type 1} → statement M
+without-spec =
     tie.close
     (tie.spec
     Inv-loop
     μ-loop
-    before-held-requires
+    before-gone-requires
     loop-holds
     line-at-requires
     add-i
-    within-requires
+    goes-requires
     loop-less
     loop-again
     put-line-requires
