@@ -11,7 +11,7 @@ use Rattle.gateway_rules.specs.declared.Line.{Line}
 use Rattle.gateway_rules.specs.Step.{lineHolds}
 use Rattle.basics.proofs.Sets.{set-ext, set-of-bits, member-of-set}
 use Rattle.gateway.specs.Answers.{holding}
-use Rattle.gateway.proofs.Places.{any-more, no-places}
+use Rattle.gateway.proofs.Firsts.{any-more, no-places}
 
 -- ---- one line
 

@@ -9,7 +9,8 @@ use Rattle.gateway_rules.specs.declared.Line.{Line}
 use Rattle.gateway.specs.State.{Lists, lineAt, Whole, linesIn, putAt}
 use Rattle.basics.specs.Lists.{any, without}
 use Rattle.basics.proofs.Lists.{without-nothing}
-use Rattle.gateway.proofs.Places.{no-places, left-out, kept-on, put-last, put-elsewhere, put-whole}
+use Rattle.gateway.proofs.Firsts.{no-places, left-out, kept-on}
+use Rattle.gateway.proofs.Places.{put-last, put-elsewhere, put-whole}
 
 pub record Kept (out : Line → Bool) (before there : Lists) (i j : ℕ) : Type 0 where
   pub whole : Whole there

@@ -1,6 +1,8 @@
 pub mod Answering
 mod Bits
+mod Columns
 mod Going
+mod Firsts
 mod Held
 mod InBounds
 mod Kept

@@ -14,7 +14,7 @@ use Rattle.gateway_rules.specs.declared.Line.{Line}
 use Rattle.gateway_rules.specs.Step.{lineHolds}
 use Rattle.gateway_rules.specs.Reasons.{holder, firstHolding}
 use Rattle.gateway_rules.proofs.Reasons.{named-before, none-before}
-use Rattle.gateway.proofs.Places.{no-places, one-more}
+use Rattle.gateway.proofs.Firsts.{no-places, one-more}
 
 module _ (p e : ℕ) (at : ℕ → Line) where
   pub named-nowhere : firstHolding p e 0 (each 0 at) ≡ []

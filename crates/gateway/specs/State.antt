@@ -6,6 +6,7 @@ use mathlib.Core.List.{List}
 use lib.ListN.{length, getD, set}
 use denote.Ref.{RefT}
 use denote.Triple.Both.{Both}
+use Rattle.range.specs.declared.Block.{Block}
 use Rattle.range.specs.Range.{isBlock}
 use Rattle.basics.specs.Lists.{each}
 use Rattle.basics.specs.Sets.{inSet}
@@ -31,6 +32,13 @@ lineAt t i = record { port = getD (t .ports) i 0; node = getD (t .nodes) i 0; bl
 -- The first n lines.
 abbrev pub linesIn : ℕ → Lists → List Line
 linesIn n t = each n (lineAt t)
+
+-- The first n numbers of one of the lists, and the first n blocks.
+abbrev pub firstNumbers : ℕ → List ℕ → List ℕ
+firstNumbers n xs = each n (λ i. getD xs i 0)
+
+abbrev pub firstBlocks : ℕ → List ℕ → List ℕ → List Block
+firstBlocks n starts sizes = each n (λ i. record { start = getD starts i 0; k = getD sizes i 0 })
 
 unfoldable pub gateIn : Head → Lists → Gate
 gateIn h t = record { ports = h .ports; automatic = h .automatic; lines = linesIn (h .count) t; marked = inSet (h .marks) }

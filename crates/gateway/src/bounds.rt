@@ -2,15 +2,19 @@
 ghost use mathlib.Core.Path.{_≡_};
 ghost use Prim.Native.Nat.{_≤_, _<_};
 ghost use mathlib.Core.Bool.{not};
-ghost use Rattle.range.specs.Range.{hasNumber};
+ghost use lib.Dec.{leb};
+ghost use lib.ListN.{length};
+ghost use Rattle.range.specs.Range.{isBlock, hasNumber};
+ghost use Rattle.message.specs.Messages.{badNode};
 ghost use Rattle.basics.specs.Lists.{any};
 ghost use Rattle.basics.specs.Sets.{inSet};
 ghost use Rattle.gateway_rules.specs.State.{badPorts, badLine, strayMark};
-ghost use Rattle.gateway.specs.State.{Whole, badHead, linesIn, held, entered};
+ghost use Rattle.gateway.specs.State.{Whole, badHead, linesIn, firstNumbers, firstBlocks, held, entered};
 use crate::Head;
-use crate::lines;
 use gateway_rules::Line;
 use range::Block;
+
+const PAST_NODE_IDS: u64 = 281474976710656;
 
 // All but the lines.
 pub(crate) fn bad_head(head: Head) -> bool
@@ -77,11 +81,69 @@ pub(crate) fn bad_lines(
     requires { ⌜ Whole (held nodes starts ports sizes) ⌝ }
     ensures { λ yes. ⌜ yes ≡ any (badLine below) (linesIn count (entered nodes starts ports sizes)) ⌝ }
 {
+    if some_port_past(count, ports, below) {
+        return true;
+    }
+    if some_bad_node(count, nodes) {
+        return true;
+    }
+    some_no_block(count, starts, sizes)
+}
+
+// Whether a line is at a port that isn't there. It goes on to the end, so that many are compared at once.
+fn some_port_past(count: usize, ports: &[u8], below: u8) -> bool
+    requires { ⌜ (count ≤ 256) × (length (ports .now) ≡ 256) ⌝ }
+    ensures { λ yes. ⌜ yes ≡ any (leb below) (firstNumbers count (now (ports .entry))) ⌝ }
+{
+    let mut past = false;
     let mut i = 0;
     while i < count {
-        let l = lines::line_at(nodes, starts, ports, sizes, i);
+        let port = ports[i];
         i += 1;
-        if bad_line(l, below) {
+        if below <= port {
+            past = true;
+            continue;
+        }
+    }
+    past
+}
+
+// Whether a line has a Node ID of 0 or of more than six bytes. What is above the six bytes is added up and tested once.
+fn some_bad_node(count: usize, nodes: &[u64]) -> bool
+    requires { ⌜ (count ≤ 256) × (length (nodes .now) ≡ 256) ⌝ }
+    ensures { λ yes. ⌜ yes ≡ any badNode (firstNumbers count (now (nodes .entry))) ⌝ }
+{
+    let mut zero = false;
+    let mut above = 0;
+    let mut i = 0;
+    while i < count {
+        let node = nodes[i];
+        i += 1;
+        above += node / PAST_NODE_IDS;
+        if node == 0 {
+            zero = true;
+            continue;
+        }
+    }
+    if zero {
+        return true;
+    }
+    above != 0
+}
+
+// Whether a line's block is none.
+fn some_no_block(count: usize, starts: &[u64], sizes: &[u8]) -> bool
+    requires { ⌜ (count ≤ 256) × (length (starts .now) ≡ 256) × (length (sizes .now) ≡ 256) ⌝ }
+    ensures { λ yes. ⌜ yes ≡ any (λ b. not (isBlock b)) (firstBlocks count (now (starts .entry)) (now (sizes .entry))) ⌝ }
+{
+    let mut i = 0;
+    while i < count {
+        let block = Block {
+            start: starts[i],
+            k: sizes[i],
+        };
+        i += 1;
+        if !range::is_block(block) {
             return true;
         }
     }

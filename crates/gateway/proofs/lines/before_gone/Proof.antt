@@ -7,7 +7,8 @@ use native.Mathlib.Omega.{arith}
 use Rattle.basics.specs.Lists.{any}
 use Rattle.gateway.specs.State.{lists, lineAt, linesIn, held}
 use Rattle.gateway.specs.Answers.{goesBy}
-use Rattle.gateway.proofs.Places.{not-more, no-places, line-tells}
+use Rattle.gateway.proofs.Firsts.{not-more, no-places}
+use Rattle.gateway.proofs.Places.{line-tells}
 use Rattle.gateway.proofs.Going.{comparable-at}
 use Rattle.gateway.proofs.lines.before_gone.Statement.{statement}
 use Rattle.gateway.proofs.lines.before_gone.Tie as tie

@@ -13,7 +13,8 @@ use Rattle.gateway_rules.specs.State.{badLine}
 use Rattle.gateway.specs.Answers.{holding}
 use Rattle.gateway.proofs.Held.{none-yet, one-line-more}
 use Rattle.gateway.proofs.InBounds.{good-line}
-use Rattle.gateway.proofs.Places.{any-more, any-at, no-places, line-tells}
+use Rattle.gateway.proofs.Firsts.{any-more, any-at, no-places}
+use Rattle.gateway.proofs.Places.{line-tells}
 use Rattle.gateway.proofs.pass.looked_up.Statement.{statement}
 use Rattle.gateway.proofs.pass.looked_up.Tie as tie
 
