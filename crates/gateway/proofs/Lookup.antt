@@ -1,9 +1,11 @@
 -- How a line stands to those of the table, from what is known of them and back.
 use mathlib.Core.Path.{_≡_, refl, sym, ap, _∙_}
-use mathlib.Core.Bool.{Bool, true, false, cond, true≢false}
+use mathlib.Core.Bool.{Bool, true, false, cond, and-false, true≢false}
 use mathlib.Core.List.{List}
+use borrow.Author.Tests.{ne-eqb}
+use lib.Dec.{eqb}
 use Rattle.gateway_rules.specs.declared.Line.{Line}
-use Rattle.gateway_rules.specs.Step.{covered, holdsSome}
+use Rattle.gateway_rules.specs.Step.{within, heldBy, covered, holdsSome}
 use Rattle.gateway.specs.declared.lines.Standing.{Standing}
 use Rattle.gateway.specs.declared.lines.Standing.the-variants.{Covered, Holding, New}
 use Rattle.gateway.specs.Answers.{standsAs}
@@ -17,6 +19,10 @@ module _ (lines : List Line) (l : Line) where
 
   pub stands-new : covered lines l ≡ false → holdsSome lines l ≡ false → New ≡ standsAs lines l
   stands-new c h = rw (c, h)
+
+-- A line of another node is neither inside it nor holds it.
+pub other-node : (l x : Line) → (x .node ≡ l .node → ⊥) → (within l x ≡ false) × (heldBy l x ≡ false)
+other-node l x other = (rw (ne-eqb (l .node) (x .node) (λ e. other (sym e))) (and-false (eqb (l .port) (x .port))), rw (ne-eqb (x .node) (l .node) other) (and-false (eqb (x .port) (l .port))))
 
 -- What the answer says.
 abbrev pub isCovered : Standing → Bool

@@ -73,6 +73,10 @@ pub(crate) fn looked_for(
     while i < count {
         let x = line_at(nodes, starts, ports, sizes, i);
         i += 1;
+        // Most lines are another node's, and nothing else is asked of those.
+        if x.node != l.node {
+            continue;
+        }
         if within(l, x) {
             return Standing::Covered;
         }
