@@ -142,10 +142,10 @@ fn some_no_block(count: usize, starts: &[u64], sizes: &[u8]) -> bool
             start: starts[i],
             k: sizes[i],
         };
-        i += 1;
         if !range::is_block(block) {
             return true;
         }
+        i += 1;
     }
     false
 }

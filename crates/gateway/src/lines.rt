@@ -72,9 +72,9 @@ pub(crate) fn looked_for(
     let mut i = 0;
     while i < count {
         let x = line_at(nodes, starts, ports, sizes, i);
-        i += 1;
         // Most lines are another node's, and nothing else is asked of those.
         if x.node != l.node {
+            i += 1;
             continue;
         }
         if within(l, x) {
@@ -82,8 +82,10 @@ pub(crate) fn looked_for(
         }
         if within(x, l) {
             holding = true;
+            i += 1;
             continue;
         }
+        i += 1;
     }
     if holding {
         Standing::Holding

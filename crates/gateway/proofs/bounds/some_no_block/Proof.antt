@@ -37,9 +37,6 @@ shared-slice-read-t9 c = omega arith
 shared-slice-read-t11 : tie.Need-shared-slice-read-t11 Inv-loop μ-loop
 shared-slice-read-t11 c = omega arith
 
-add-i : tie.Need-add-i Inv-loop μ-loop
-add-i c = omega arith
-
 is-block-requires : tie.Need-is-block-requires Inv-loop μ-loop
 is-block-requires c κs = omega arith
 
@@ -48,6 +45,9 @@ returns c =
     let a = c .before .before .before .before .before .before .before .before .args in
     let at : ℕ → Block = λ i. record { start = getD (a .starts .now) i 0; k = getD (a .sizes .now) i 0 } in
     sym (any-at (λ b. not (isBlock b)) (a .count) at (c .before .before .before .before .before .loop .i) (omega arith) (ap not (sym (c .before .is-block .ensures)) ∙ c .if1 .taken))
+
+add-i : tie.Need-add-i Inv-loop μ-loop
+add-i c = omega arith
 
 loop-less : tie.Need-loop-less Inv-loop μ-loop
 loop-less c = omega arith
@@ -75,9 +75,9 @@ some-no-block-spec =
     mul-t7
     shared-slice-read-t9
     shared-slice-read-t11
-    add-i
     is-block-requires
     returns
+    add-i
     loop-less
     loop-again
     returns-2)

@@ -68,6 +68,9 @@ within-requires-2 c κs =
     let t = held (a .nodes) (a .starts) (a .ports) (a .sizes) in
     (block-at (a .count) t (c .before .before .before .before .before .before .before .loop .i) (c .before .before .before .before .before .before .before .before .before .before .before .before .pre .1 .1 .1) (omega arith) (c .before .before .before .before .before .line-at .ensures), c .before .before .before .before .before .before .before .before .before .before .before .before .pre .1 .1 .0)
 
+add-i-2 : tie.Need-add-i-2 Inv-loop μ-loop
+add-i-2 c = omega arith
+
 loop-less-2 : tie.Need-loop-less-2 Inv-loop μ-loop
 loop-less-2 c = omega arith
 
@@ -80,6 +83,9 @@ loop-again-2 c =
     let outside = line-tells (within l) (lineAt t (s .i)) (c .before .before .before .before .before .before .before .line-at .ensures) (c .before .before .before .within .ensures) (c .before .before .if2 .left) in
     let holds = line-tells (heldBy l) (lineAt t (s .i)) (c .before .before .before .before .before .before .before .line-at .ensures) (c .before .within2 .ensures) (c .if3 .taken) in
     (omega arith, not-more (within l) (s .i) (lineAt t) outside ∙ s .inv .1, sym (now-more (heldBy l) (s .i) (lineAt t) holds))
+
+add-i-3 : tie.Need-add-i-3 Inv-loop μ-loop
+add-i-3 c = omega arith
 
 loop-less-3 : tie.Need-loop-less-3 Inv-loop μ-loop
 loop-less-3 c = omega arith
@@ -128,8 +134,10 @@ looked-for-spec =
     within-requires
     returns
     within-requires-2
+    add-i-2
     loop-less-2
     loop-again-2
+    add-i-3
     loop-less-3
     loop-again-3
     returns-2
