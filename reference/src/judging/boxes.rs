@@ -7,15 +7,16 @@ use std::fmt::{self, Debug, Formatter};
 use crate::gateway::{self, Line};
 use crate::lent_box::{self, Block, Gateway, Head, LentAnswer, Lists, Reason, PLACES};
 
-use super::covers;
 use super::functions::Function;
 use super::histories::{any_history, history_in, Arrival};
 use super::laid_out::{any_numbers, Layout};
 use super::lengths;
 use super::observed;
+use super::observed_covers;
 use super::questions::{self, Blocks, Question};
 use super::random::Dice;
-use super::rows::{Row, BOX_WAY_COUNT};
+use super::rows::Row;
+use super::ways::BOX_WAY_COUNT;
 use super::witness::Witness;
 use super::world::{Area, World};
 
@@ -117,7 +118,7 @@ fn judge_layout(dice: &mut Dice, witness: &mut Witness, calls: &impl Calls) {
     let mut world = World::new(dice, 3, events, automatic);
     world.longest_run = dice.pick(&[1, 64]);
     let layout = Layout::in_bounds(dice, &world, automatic);
-    covers::saw_given(&layout.for_reference().lines, witness.column);
+    observed_covers::saw_given(&layout.for_reference().lines, witness.column);
     let boxes = Boxes::of_layout(dice, &layout);
     let reports = (0..4).filter_map(|_| layout.report_of_a_line(dice, &world));
     let mut arrivals: Vec<Arrival> = reports.collect();

@@ -10,7 +10,8 @@ use crate::node::{Answer, Slot};
 use super::board_calls::Caller;
 use super::laid_boards;
 use super::random::Dice;
-use super::rows::{Row, BOARD_WAY_COUNT};
+use super::rows::Row;
+use super::ways::BOARD_WAY_COUNT;
 use super::witness::{Hex, Witness};
 use super::world::Area;
 

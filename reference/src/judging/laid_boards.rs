@@ -5,7 +5,7 @@ use crate::node::{Slot, ADVERTISED, INITIALIZED, MOST_SLOTS, NOT_INITIALIZED, UN
 
 use super::board_calls::Caller;
 use super::random::Dice;
-use super::rows::FIRST_UNEQUAL;
+use super::ways::FIRST_UNEQUAL;
 use super::world::{crooked_block, endless_block, Area};
 
 /// Entries of each list past what is lent of it, which no call may touch.
@@ -132,7 +132,7 @@ fn unequal_lists(dice: &mut Dice, board: &mut LentBoard, way: usize) {
 
 #[cfg(test)]
 mod tests {
-    use super::super::rows::BOARD_WAY_COUNT;
+    use super::super::ways::BOARD_WAY_COUNT;
     use super::*;
     use crate::node::Answer;
 

@@ -10,7 +10,8 @@ use super::functions::Function;
 use super::histories::Arrival;
 use super::questions::{reason_of, Question};
 use super::random::Dice;
-use super::rows::{Row, LENGTH_COUNT};
+use super::rows::Row;
+use super::ways::LENGTH_COUNT;
 use super::witness::Witness;
 
 const TOO_SHORT: [usize; 5] = [0, 1, 128, 254, 255];

@@ -40,6 +40,7 @@ pub mod near_blocks;
 pub mod nests;
 pub mod observed;
 pub mod observed_can;
+pub mod observed_covers;
 pub mod output;
 pub mod pairs;
 pub mod parts;
@@ -49,6 +50,8 @@ pub mod random;
 #[cfg(feature = "proved")]
 mod ranges;
 pub mod reached;
+pub mod row_labels;
+pub mod row_sorts;
 pub mod rows;
 pub mod sort;
 #[cfg(test)]
@@ -78,5 +81,6 @@ pub mod trial_files;
 #[cfg(feature = "proved")]
 mod trials;
 pub mod verdict;
+pub mod ways;
 pub mod witness;
 pub mod world;

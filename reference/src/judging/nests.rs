@@ -4,11 +4,11 @@
 use crate::gateway::{Gateway, Line};
 
 use super::boxes::{self, Boxes, Calls};
-use super::covers;
 use super::histories::{nested_history, Arrival};
 use super::laid_out::Layout;
 use super::moves::{announcement, with_event};
 use super::near_blocks::{around, around_both, near, Block};
+use super::observed_covers;
 use super::random::Dice;
 use super::witness::Witness;
 use super::world::{near_node, Area, World};
@@ -25,7 +25,7 @@ pub fn judge(dice: &mut Dice, witness: &mut Witness, calls: &impl Calls) {
     let world = World::new(dice, nodes, 6, automatic);
     let layout = Layout::nested(dice, &world, automatic);
     let from = layout.for_reference();
-    covers::saw_given(&from.lines, witness.column);
+    observed_covers::saw_given(&from.lines, witness.column);
     let boxes = Boxes::of_layout(dice, &layout);
     let arrivals = nested_history(dice, from, world, MOST_MESSAGES);
     boxes::follow(dice, witness, calls, boxes, &arrivals);

@@ -10,10 +10,10 @@ use crate::trial::{self, Entry, HOUSE_NUMBER, PORTS};
 use crate::why::Reason;
 
 use super::counts::Column;
-use super::covers;
 use super::functions::Function;
 use super::histories::Arrival;
 use super::moves::Move;
+use super::observed_covers;
 use super::rows::Row;
 use super::world::low_bits;
 
@@ -58,7 +58,7 @@ fn saw_accepted(
         if after.lines != before.lines {
             column.saw(Row::of_block(k));
         }
-        covers::saw_announced(before, &line, column);
+        observed_covers::saw_announced(before, &line, column);
     } else if after.lines.len() < before.lines.len() {
         saw_removed(before, after, port, column);
     }
