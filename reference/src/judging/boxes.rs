@@ -9,12 +9,14 @@ use crate::lent_box::{self, Block, Gateway, Head, LentAnswer, Lists, Reason, PLA
 
 use super::functions::Function;
 use super::histories::{any_history, history_in, Arrival};
-use super::laid_out::{any_numbers, Layout};
+use super::laid_lines::any_numbers;
+use super::laid_out::Layout;
 use super::lengths;
 use super::observed;
 use super::observed_covers;
 use super::questions::{self, Blocks, Question};
 use super::random::Dice;
+use super::restarts::restarts_of;
 use super::rows::Row;
 use super::ways::BOX_WAY_COUNT;
 use super::witness::Witness;
@@ -111,18 +113,21 @@ fn judge_refused_start(dice: &mut Dice, witness: &mut Witness, calls: &impl Call
     );
 }
 
-/// A history from a state in bounds that need not come from a start.
+/// A history from a state in bounds that need not come from a start, at times with restarts before it.
 fn judge_layout(dice: &mut Dice, witness: &mut Witness, calls: &impl Calls) {
     let automatic = Area::any_automatic(dice);
     let events = dice.pick(&[40, 1_000]);
     let mut world = World::new(dice, 3, events, automatic);
     world.longest_run = dice.pick(&[1, 64]);
-    let layout = Layout::in_bounds(dice, &world, automatic);
-    observed_covers::saw_given(&layout.for_reference().lines, witness.column);
+    let mut layout = Layout::in_bounds(dice, &world, automatic);
+    let restarting = layout.share_out_at_times(dice, 30);
+    let mut from = layout.for_reference();
+    observed_covers::saw_given(&from.lines, witness.column);
     let boxes = Boxes::of_layout(dice, &layout);
     let reports = (0..4).filter_map(|_| layout.report_of_a_line(dice, &world));
     let mut arrivals: Vec<Arrival> = reports.collect();
-    arrivals.extend(history_in(dice, layout.for_reference(), world));
+    arrivals.extend(restarts_of(dice, &mut from, &restarting));
+    arrivals.extend(history_in(dice, from, world));
     follow(dice, witness, calls, boxes, &arrivals);
 }
 

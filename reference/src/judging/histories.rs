@@ -9,6 +9,7 @@ use super::nests::{any_nested, any_replacing};
 use super::parts::{any_mti, bytes_damaged_at_times, Parts};
 use super::questions::event_of;
 use super::random::Dice;
+use super::restarts::restarts_from_a_start;
 use super::witness::Hex;
 use super::world::{Area, World};
 
@@ -42,7 +43,7 @@ struct Maker<'a> {
 /// A history of a box with so many ports, at most 900 messages.
 pub fn any_history(dice: &mut Dice, ports: u8, automatic: Area) -> Vec<Arrival> {
     let start = started(ports, automatic);
-    match dice.weighted(&[40, 15, 15, 15, 15]) {
+    match dice.weighted(&[40, 15, 15, 15, 15, 25]) {
         0 => {
             let world = any_world(dice, automatic, (1, 4), (1, 12));
             history_in(dice, start, world)
@@ -59,9 +60,13 @@ pub fn any_history(dice: &mut Dice, ports: u8, automatic: Area) -> Vec<Arrival> 
             let world = any_world(dice, automatic, (1, 3), (1, 6));
             history_of_ranges(dice, start, world)
         }
-        _ => {
+        4 => {
             let world = any_world(dice, automatic, (1, 3), (1, 6));
             nested_history(dice, start, world, 80)
+        }
+        _ => {
+            let world = any_world(dice, automatic, (1, 6), (1, 12));
+            history_of_restarts(dice, start, world)
         }
     }
 }
@@ -114,6 +119,13 @@ fn history_of_ranges(dice: &mut Dice, from: Gateway, world: World) -> Vec<Arriva
     let mut maker = Maker::new(dice, from, world);
     maker.take(RANGES, (5, 150));
     maker.arrivals
+}
+
+/// A history of restarts that leave gaps of every shape, and of everything after them.
+fn history_of_restarts(dice: &mut Dice, mut from: Gateway, world: World) -> Vec<Arrival> {
+    let mut arrivals = restarts_from_a_start(dice, &mut from, &world);
+    arrivals.extend(history_in(dice, from, world));
+    arrivals
 }
 
 /// A history of exactly so many messages, the table full or nearly so in most of it.

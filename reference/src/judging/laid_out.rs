@@ -6,7 +6,7 @@ use crate::gateway::{self, Line};
 use crate::lent_box::{Block, Gateway, Head, PLACES};
 
 use super::histories::Arrival;
-use super::near_blocks::{around, near};
+use super::laid_lines::{any_numbers, lines_apart, lines_at_times_nested, share_out};
 use super::parts::Parts;
 use super::random::Dice;
 use super::world::{crooked_block, endless_block, low_bits, Area, World, HIGHEST_NODE};
@@ -19,82 +19,6 @@ pub struct Layout {
     lines: Vec<Line>,
     /// Lines that the proved side is told of beyond those laid out.
     pub told: usize,
-}
-
-/// A block that ends in zeros, k from 0 to 64.
-fn any_block(dice: &mut Dice, world: &World) -> (u64, u32) {
-    let event = world.event(dice);
-    let k = dice
-        .pick(&[0, 0, 1, 2, 8, 16, 48, 63, 64])
-        .min(world.longest_run) as u32;
-    (event & !low_bits(k), k)
-}
-
-/// A line in bounds.
-fn any_line(dice: &mut Dice, ports: u8, world: &World) -> Line {
-    let port = dice.below(u64::from(ports)) as u32;
-    let node = world.node(dice);
-    let (start, k) = any_block(dice, world);
-    Line {
-        port,
-        node,
-        start,
-        k,
-    }
-}
-
-/// So many lines; so many in a hundred are near one before, of its port and node, and some the same once more.
-fn lines_at_times_nested(
-    dice: &mut Dice,
-    ports: u8,
-    world: &World,
-    count: usize,
-    percent: u64,
-) -> Vec<Line> {
-    let mut lines: Vec<Line> = Vec::new();
-    for _ in 0..count {
-        let line = match dice.weighted(&[90 - percent, percent, 10]) {
-            1 if !lines.is_empty() => {
-                let line = dice.pick(&lines);
-                let (start, k) = near(dice, (line.start, line.k));
-                Line { start, k, ..line }
-            }
-            2 if !lines.is_empty() => dice.pick(&lines),
-            _ => any_line(dice, ports, world),
-        };
-        lines.push(line);
-    }
-    lines
-}
-
-/// So many lines, at most 256, whose blocks are apart, at a few of the ports: four events to each, and some or all of them in its block. Their order is not that
-/// of the events.
-fn lines_apart(dice: &mut Dice, ports: u8, world: &World, count: usize) -> Vec<Line> {
-    let base = dice.number() & !low_bits(10);
-    let step = 2 * dice.below(128) + 1;
-    let few = dice.between(1, usize::from(ports)) as u64;
-    let line = |place: usize| {
-        let k = dice.pick(&[0, 0, 0, 1, 2]);
-        let event = base + 4 * (place as u64 * step % 256) + dice.below(4);
-        let (start, k) = around(event, k);
-        Line {
-            port: dice.below(few) as u32,
-            node: world.node(dice),
-            start,
-            k,
-        }
-    };
-    (0..count).map(line).collect()
-}
-
-/// A line of any numbers that the proved table has room for.
-pub fn any_numbers(dice: &mut Dice) -> Line {
-    Line {
-        port: u32::from(dice.number() as u8),
-        node: dice.number(),
-        start: dice.number(),
-        k: u32::from(dice.number() as u8),
-    }
 }
 
 impl Layout {
@@ -111,7 +35,7 @@ impl Layout {
         let ports = dice.between(2, 8) as u8;
         let count = dice.pick(&[0, 0, 0, 1, 2, 5, 12, 40, 254, 255, 255, 256, 256, 256]);
         let lines = match dice.chance(50) {
-            true => lines_apart(dice, ports, world, count),
+            true => lines_apart(dice, ports, &world.nodes, count),
             false => lines_at_times_nested(dice, ports, world, count, 60),
         };
         Layout::with_lines(dice, ports, automatic, lines)
@@ -127,6 +51,14 @@ impl Layout {
             marks: marks & low_bits(u32::from(ports)) as u8,
             lines,
             told: 0,
+        }
+    }
+
+    /// Gives its lines, so many times in a hundred, to nodes that are to restart, and answers these.
+    pub fn share_out_at_times(&mut self, dice: &mut Dice, percent: u64) -> Vec<u64> {
+        match dice.chance(percent) {
+            true => share_out(dice, &mut self.lines),
+            false => Vec::new(),
         }
     }
 

@@ -29,6 +29,7 @@ pub mod frames;
 pub mod functions;
 pub mod histories;
 pub mod laid_boards;
+pub mod laid_lines;
 pub mod laid_out;
 pub mod legs;
 pub mod lengths;
@@ -50,9 +51,11 @@ pub mod random;
 #[cfg(feature = "proved")]
 mod ranges;
 pub mod reached;
+pub mod restarts;
 pub mod row_labels;
 pub mod row_sorts;
 pub mod rows;
+pub mod shapes;
 pub mod sort;
 #[cfg(test)]
 mod stand_in;
@@ -74,6 +77,8 @@ mod stand_in_replaces;
 mod stand_in_restarts;
 #[cfg(test)]
 mod stand_in_splits;
+#[cfg(test)]
+mod stand_in_survivors;
 #[cfg(test)]
 mod stand_in_why;
 pub mod texts;

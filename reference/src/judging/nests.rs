@@ -10,24 +10,27 @@ use super::moves::{announcement, with_event};
 use super::near_blocks::{around, around_both, near, Block};
 use super::observed_covers;
 use super::random::Dice;
+use super::restarts::restarts_of;
 use super::witness::Witness;
 use super::world::{near_node, Area, World};
 
-/// The most messages of a history, but for a move at its end.
+/// The most messages of a history, but for restarts before it and a move at its end.
 const MOST_MESSAGES: usize = 40;
 
-/// One state, and announcements near its lines.
+/// One state, at times restarts, and announcements near its lines.
 pub fn judge(dice: &mut Dice, witness: &mut Witness, calls: &impl Calls) {
     let any = Area::any_automatic(dice);
     let house = Area::house();
     let automatic = dice.pick(&[house, house, house, any]);
     let nodes = dice.between(1, 3);
     let world = World::new(dice, nodes, 6, automatic);
-    let layout = Layout::nested(dice, &world, automatic);
-    let from = layout.for_reference();
+    let mut layout = Layout::nested(dice, &world, automatic);
+    let restarting = layout.share_out_at_times(dice, 10);
+    let mut from = layout.for_reference();
     observed_covers::saw_given(&from.lines, witness.column);
     let boxes = Boxes::of_layout(dice, &layout);
-    let arrivals = nested_history(dice, from, world, MOST_MESSAGES);
+    let mut arrivals = restarts_of(dice, &mut from, &restarting);
+    arrivals.extend(nested_history(dice, from, world, MOST_MESSAGES));
     boxes::follow(dice, witness, calls, boxes, &arrivals);
 }
 

@@ -15,6 +15,7 @@ use super::histories::Arrival;
 use super::moves::Move;
 use super::observed_covers;
 use super::rows::Row;
+use super::shapes;
 use super::world::low_bits;
 
 /// Puts a message to the reference and counts what came of it.
@@ -59,8 +60,11 @@ fn saw_accepted(
             column.saw(Row::of_block(k));
         }
         observed_covers::saw_announced(before, &line, column);
-    } else if after.lines.len() < before.lines.len() {
-        saw_removed(before, after, port, column);
+    } else if message::is_initialization_complete(message) {
+        shapes::saw_restart(before, message.source, column);
+        if after.lines.len() < before.lines.len() {
+            saw_removed(before, after, port, column);
+        }
     }
 }
 

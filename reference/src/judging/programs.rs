@@ -184,8 +184,8 @@ mod tests {
         assert_eq!(sorts, JUDGE.sorts);
     }
 
-    /// As many files as there are by default reach every row that files can, those of moves and of what is covered many times, where the programs print what they should. In half
-    /// of the trial files or more a board moves.
+    /// As many files as there are by default reach every row that files can, those of moves and of what is covered many times and those of what goes at a restart
+    /// twice as often as is asked for, where the programs print what they should. In half of the trial files or more a board moves.
     #[test]
     fn every_row_by_default() {
         let mut columns = Columns::default();
@@ -208,13 +208,20 @@ mod tests {
         for sort in [Sort::Trial, Sort::Why, Sort::Explain] {
             let column = &columns[sort as usize];
             assert!(2 * column.seen(Row::BoardMoved) >= column.seen(Row::Inputs));
-            let many = |row: &Row| match row {
-                Row::Cover(cover) => !cover.is_of_given_tables(),
-                _ => matches!(row, Row::Moved(_)),
+            let least = |row: Row| match row {
+                Row::Cover(cover) if !cover.is_of_given_tables() => 50,
+                Row::Moved(_) => 50,
+                Row::Restarted(_) | Row::RestartedInFull(_) => 2 * row.least(),
+                _ => 0,
             };
-            for row in Row::all().into_iter().filter(many) {
+            for row in Row::all() {
                 let seen = column.seen(row);
-                assert!(seen >= 50, "{}: {}: {seen}", sort.name(), row.label());
+                assert!(
+                    seen >= least(row),
+                    "{}: {}: {seen}",
+                    sort.name(),
+                    row.label()
+                );
             }
         }
     }

@@ -32,6 +32,10 @@ impl Row {
             Row::SplitLength(place) => {
                 return format!("split: a payload of {}", SPLIT_LENGTHS[place])
             }
+            Row::Restarted(shape) => return format!("restart: {}", shape.label()),
+            Row::RestartedInFull(shape) => {
+                return format!("restart of 256 lines: {}", shape.label())
+            }
             Row::Leg(leg) => leg.label(),
             Row::CanWay(way) => CAN_WAYS[way],
             Row::Reason(number) => REASONS[usize::from(number) - 1],

@@ -32,6 +32,8 @@ impl Row {
             | Row::RemovedElsewhere
             | Row::BlocksNested
             | Row::Moved(_)
+            | Row::Restarted(_)
+            | Row::RestartedInFull(_)
             | Row::Cover(_) => &BOXES,
             Row::Reason(_)
             | Row::HeldByOneEvent

@@ -6,6 +6,7 @@ use super::legs::{Leg, CAN_WAY_COUNT, SPLIT_LENGTHS};
 use super::moves::Move;
 use super::pairs::Pair;
 use super::row_labels::{COMPARED, REASONS};
+use super::shapes::Shape;
 use super::ways::{BOARD_WAY_COUNT, BOX_WAY_COUNT, LENGTH_COUNT};
 
 /// The size classes of blocks: what they are called, the least and the most k.
@@ -31,7 +32,7 @@ pub const WRITTEN: [u16; 8] = [
     0x0100, 0x05B4, 0x0544, 0x0545, 0x0547, 0x04C4, 0x04C5, 0x04C7,
 ];
 
-/// How many times the default inputs have to reach a row of a CAN leg, or one of what is covered.
+/// How many times the default inputs have to reach a row of a CAN leg, one of what is covered, or one of what goes at a restart.
 const LEAST_OF_MANY: u64 = 10;
 
 /// A row: something that can be seen of an input.
@@ -56,6 +57,10 @@ pub enum Row {
     BlocksNested,
     /// Such a restart, and what it was beside.
     Moved(Move),
+    /// A restart, by the shape of what goes.
+    Restarted(Shape),
+    /// The same with 256 lines.
+    RestartedInFull(Shape),
     /// Why a report is sent or not, the reason by its number.
     Reason(u8),
     HeldByOneEvent,
@@ -106,6 +111,8 @@ impl Row {
         rows.extend([Row::SentToAllOthers, Row::TableFilled, Row::PortOpened]);
         rows.extend([Row::BoardMoved, Row::RemovedElsewhere]);
         rows.extend(Move::ALL.map(Row::Moved));
+        rows.extend(Shape::ALL.map(Row::Restarted));
+        rows.extend(Shape::ALL.map(Row::RestartedInFull));
         rows.extend([Row::BlocksNested]);
         rows.extend(Cover::ALL.map(Row::Cover));
         rows.extend((1..=REASONS.len() as u8).map(Row::Reason));
@@ -169,7 +176,9 @@ impl Row {
             | Row::Answer(Function::Compare, _)
             | Row::Compared(_)
             | Row::Pair(_)
-            | Row::Cover(_) => LEAST_OF_MANY,
+            | Row::Cover(_)
+            | Row::Restarted(_)
+            | Row::RestartedInFull(_) => LEAST_OF_MANY,
             _ => 1,
         }
     }

@@ -240,7 +240,7 @@ pub fn differs(seed: u64, sort: Sort, index: u64, stand_in: &StandIn, column: &m
 }
 
 /// A sound archive agrees on every input, and as many inputs as there are by default reach every row, a tenth of them those of nested ranges; those of why, of
-/// moves and of what is covered are reached many times. In half of the histories or more a board moves.
+/// moves, of what is covered and of what goes at a restart are reached many times. In half of the histories or more a board moves.
 #[test]
 fn a_sound_archive() {
     let mut columns = Columns::default();
@@ -265,9 +265,11 @@ fn a_sound_archive() {
         )
     };
     let of_covers = |row: &Row| matches!(row, Row::Cover(_));
+    let of_restarts = |row: &Row| matches!(row, Row::Restarted(_) | Row::RestartedInFull(_));
     for (sort, many, least) in [
         (Sort::Box, of_box as fn(&Row) -> bool, 200),
         (Sort::Box, of_covers, 100),
+        (Sort::Box, of_restarts, 50),
         (Sort::Nest, of_covers, 100),
     ] {
         for row in Row::all().into_iter().filter(many) {

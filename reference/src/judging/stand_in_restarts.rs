@@ -1,4 +1,4 @@
-//! Slips at a restart, in the stand-in for the archive's box (02, W2): what it removes, what it leaves, and in which order.
+//! Slips at a restart, in the stand-in for the archive's box (02, W2): here those in which lines go, and in how the rest is ordered.
 
 use crate::gateway::{Gateway, Line, MOST_LINES};
 use crate::message;
@@ -7,14 +7,15 @@ use super::counts::Column;
 use super::sort::Sort;
 use super::stand_in_box::{differs, Slips, StandIn, NO_SLIPS};
 use super::stand_in_files::{explain_shows, trial_shows};
+use super::stand_in_survivors as survivors;
 use super::world::low_bits;
 
 /// A restart that is accepted: the state before it, its port, its MTI and its node.
 pub struct Restart<'a> {
-    before: &'a Gateway,
+    pub before: &'a Gateway,
     port: u32,
     mti: u16,
-    node: u64,
+    pub node: u64,
 }
 
 /// A slip: what it makes of the state that a restart rightly leaves.
@@ -33,7 +34,7 @@ impl Restart<'_> {
     }
 
     /// Whether the line is rightly removed.
-    fn is_own(&self, line: &Line) -> bool {
+    pub fn is_own(&self, line: &Line) -> bool {
         line.node == self.node
     }
 
@@ -203,6 +204,16 @@ const SLIPS: [Slip; 18] = [
 /// Slips in the order of the lines, which `trial` does not show.
 const SLIPS_OF_ORDER: [Slip; 2] = [the_rest_is_reversed, the_last_line_fills_the_gap];
 
+/// The slips that trial files show.
+fn of_trial() -> impl Iterator<Item = Slip> {
+    SLIPS.into_iter().chain(survivors::SLIPS)
+}
+
+/// The slips that files to explain show.
+fn of_explain() -> impl Iterator<Item = Slip> {
+    of_trial().chain(SLIPS_OF_ORDER).chain(survivors::OF_ORDER)
+}
+
 /// The slip alone.
 fn with(restart: Slip) -> Slips {
     Slips {
@@ -214,7 +225,7 @@ fn with(restart: Slip) -> Slips {
 /// Every slip is found soon, in whichever call it is, whatever the seed.
 #[test]
 fn slips() {
-    for (place, slip) in SLIPS.into_iter().chain(SLIPS_OF_ORDER).enumerate() {
+    for (place, slip) in of_explain().chain(survivors::OF_COUNT).enumerate() {
         for (by_value, in_place) in [(slip, none as Slip), (none, slip)] {
             let stand_in = StandIn::with_slips(with(by_value), with(in_place));
             for seed in 1..=4 {
@@ -229,15 +240,15 @@ fn slips() {
 /// Trial files show every slip too, but for those of order.
 #[test]
 fn slips_in_trial_files() {
-    for (place, slip) in SLIPS.into_iter().enumerate() {
+    for (place, slip) in of_trial().chain(survivors::OF_COUNT).enumerate() {
         assert!(trial_shows(with(slip)), "slip {place}");
     }
 }
 
-/// Files that are explained show all of them.
+/// Files that are explained show those of order too, but not a line too many.
 #[test]
 fn slips_in_explained_files() {
-    for (place, slip) in SLIPS.into_iter().chain(SLIPS_OF_ORDER).enumerate() {
+    for (place, slip) in of_explain().enumerate() {
         assert!(explain_shows(with(slip)), "slip {place}");
     }
 }
