@@ -13,6 +13,8 @@ mod quick;
 mod quick_can;
 #[path = "speed/rows.rs"]
 mod rows;
+#[path = "speed/rows_box.rs"]
+mod rows_box;
 #[path = "speed/rows_can.rs"]
 mod rows_can;
 
@@ -31,7 +33,8 @@ checked: the box without proofs, with document 01's test of the whole state firs
 split-256 and join-256: a report with 256 bytes of payload and a list of 128 pairs, the state by value in all columns, join-256 all 33 frames; unchecked leaves
 out the test of the list.
 announce-inside: an event inside the last of 64 lines. announce-over-64: a block that holds every other one of 128 lines.
-announce-new, announce-over-64 and restart: every call on a fresh copy of the state, the copy counted in, by value the call's own; copy is that copy alone.
+restart-1, -64 and -none: a node with one line in the middle, with every other one of the first 128, and with none, in 128 and in 256 lines.
+announce-new, announce-over-64 and restarts: every call on a fresh copy of the state, the copy counted in, by value the call's own; copy is that copy alone.
 The ratios are of proved. Output buffers (trial, write) are not cleared between calls.";
 
 fn main() -> ExitCode {
@@ -108,7 +111,7 @@ fn print_table(measured: &[(&str, Rounds)], place: usize) {
 
 fn print_line(name: &str, cells: impl Iterator<Item = impl Display>) {
     let cells: String = cells.map(|cell| format!("{cell:>12}")).collect();
-    println!("{name:<16}{cells}");
+    println!("{name:<20}{cells}");
 }
 
 fn shown(figure: Option<f64>, decimals: usize) -> String {

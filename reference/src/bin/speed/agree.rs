@@ -54,7 +54,7 @@ fn compare_writing(dice: &mut Dice) {
 /// A box with one number spoilt, or with none.
 fn compare_bounds(dice: &mut Dice) {
     let mut quick = quick::Gateway::start(2 + dice.below(7) as u8, HOUSE_NUMBER);
-    quick.count = dice.below(4) as usize;
+    quick.count = dice.below(20) as usize;
     for place in 0..quick.count {
         quick.lines[place] = Line {
             node: NODE,
@@ -63,7 +63,7 @@ fn compare_bounds(dice: &mut Dice) {
             port: dice.below(quick.ports.into()) as u8,
         };
     }
-    let line = &mut quick.lines[dice.below(3) as usize];
+    let line = &mut quick.lines[dice.below(20) as usize];
     match dice.below(11) {
         0 => quick.ports = dice.pick(&[0, 1, 9, 255]),
         1 => quick.marks = dice.below(256) as u8,

@@ -264,7 +264,14 @@ impl Gateway {
             && u64::from(self.marks) & !low_bits(self.ports) == 0
             && k != 0
             && is_block(start, k)
-            && self.lines().iter().all(|line| self.line_in_bounds(line))
+            && self.lines_in_bounds()
+    }
+
+    /// Eight lines to a step: the compiler unrolls no loop that can end at any line.
+    fn lines_in_bounds(&self) -> bool {
+        let in_bounds = |line: &Line| self.line_in_bounds(line);
+        let (eights, rest) = self.lines().as_chunks::<8>();
+        eights.iter().all(|eight| eight.iter().all(in_bounds)) && rest.iter().all(in_bounds)
     }
 
     fn line_in_bounds(&self, line: &Line) -> bool {
@@ -324,10 +331,10 @@ impl Gateway {
         let lines = &mut self.lines[..self.count];
         let mut kept = first_held;
         for place in first_held + 1..lines.len() {
-            let other = lines[place];
+            let other = &lines[place];
             let own = other.node == line.node && other.port == line.port;
             if !own || other.start & above != line.start {
-                lines[kept] = other;
+                lines[kept] = lines[place];
                 kept += 1;
             }
         }
@@ -335,11 +342,14 @@ impl Gateway {
         self.count = kept + 1;
     }
 
-    /// The node's lines go at every port.
+    /// The node's lines go at every port: the survivors before the first of them stay where they are, and every other one moves once.
     fn restart(&mut self, node: u64) {
+        let Some(first_gone) = first_line_of(node, self.lines()) else {
+            return;
+        };
         let lines = &mut self.lines[..self.count];
-        let mut kept = 0;
-        for place in 0..lines.len() {
+        let mut kept = first_gone;
+        for place in first_gone + 1..lines.len() {
             if lines[place].node != node {
                 lines[kept] = lines[place];
                 kept += 1;
@@ -347,6 +357,19 @@ impl Gateway {
         }
         self.count = kept;
     }
+}
+
+/// The place of a node's first line, eight lines to a step here too.
+fn first_line_of(node: u64, lines: &[Line]) -> Option<usize> {
+    let goes = |line: &Line| line.node == node;
+    let (eights, rest) = lines.as_chunks::<8>();
+    for (step, eight) in eights.iter().enumerate() {
+        if let Some(within) = eight.iter().position(goes) {
+            return Some(8 * step + within);
+        }
+    }
+    let within = rest.iter().position(goes)?;
+    Some(8 * eights.len() + within)
 }
 
 /// The text of a trial file, as much as fits; answers how many bytes that took.

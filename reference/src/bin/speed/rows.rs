@@ -4,11 +4,11 @@ use std::hint::black_box;
 
 use reference::message::Message;
 use reference::proved;
-use reference::trial::{self, HOUSE_NUMBER};
+use reference::trial;
 
 use crate::dice::Dice;
-use crate::quick::{self, Line};
-use crate::rows_can;
+use crate::quick;
+use crate::{rows_box, rows_can};
 
 /// A box's proved column is the call in place.
 pub const COLUMNS: [&str; 4] = ["proved", "by value", "checked", "unchecked"];
@@ -22,23 +22,17 @@ pub struct Row {
     pub calls: [Option<Call>; COLUMNS.len()],
 }
 
-const NODE: u64 = 0x0A00_0000_0001;
-const EVENT: u64 = 0x0A00_0000_0001_0000;
-/// No line of any table here holds it, and it is not automatic.
-const UNWANTED: u64 = 0x0B00_0000_0000_0000;
-const REPORT: u16 = 0x05B4;
-const CONSUMER_IDENTIFIED: u16 = 0x04C4;
-const CONSUMER_RANGE_IDENTIFIED: u16 = 0x04A4;
+pub const NODE: u64 = 0x0A00_0000_0001;
+pub const EVENT: u64 = 0x0A00_0000_0001_0000;
+pub const REPORT: u16 = 0x05B4;
+pub const CONSUMER_IDENTIFIED: u16 = 0x04C4;
 const RESTART: u16 = 0x0100;
 const IDENTIFY_ADDRESSED: u16 = 0x0968;
 const OTHER: u16 = 0x0490;
 const MOST_CONTENT: [u8; 72] = [0x55; 72];
 
 pub fn all() -> Vec<Row> {
-    let mut rows = vec![copy_row()];
-    rows.extend(report_rows());
-    rows.extend(announcement_rows());
-    rows.extend(restart_rows());
+    let mut rows = rows_box::all();
     rows.push(trial_row());
     rows.extend(reading_rows());
     rows.extend(writing_rows());
@@ -55,223 +49,18 @@ pub fn repeat<T>(mut call: impl FnMut() -> T + 'static) -> Call {
     })
 }
 
-/// The state's copy alone, which the rows with a fresh state contain.
-fn copy_row() -> Row {
-    let quick = table(256);
-    let proved = as_proved(&quick);
-    Row {
-        name: "copy",
-        calls: [
-            Some(repeat(move || *black_box(&proved))),
-            None,
-            Some(repeat(move || *black_box(&quick))),
-            None,
-        ],
-    }
-}
-
-fn report_rows() -> Vec<Row> {
-    let report = |event| message(REPORT, NODE, event);
-    let hit = |count: usize| report(nth_line(count - 1).start);
-    let miss = || report(UNWANTED);
-    vec![
-        unchanging("report-0-miss", table(0), 0, miss(), 0),
-        unchanging("report-16-hit", table(16), 0, hit(16), 1 << 1),
-        unchanging("report-16-miss", table(16), 0, miss(), 0),
-        unchanging("report-64-hit", table(64), 0, hit(64), 1 << 1),
-        unchanging("report-64-miss", table(64), 0, miss(), 0),
-        unchanging("report-256-hit", table(256), 0, hit(256), 1 << 1),
-        unchanging("report-256-miss", table(256), 0, miss(), 0),
-    ]
-}
-
-fn announcement_rows() -> Vec<Row> {
-    let last = nth_line(63);
-    let new = message(CONSUMER_IDENTIFIED, NODE, UNWANTED);
-    let again = message(CONSUMER_IDENTIFIED, last.node, last.start);
-    vec![
-        changing("announce-new", table(64), 1, new, 65),
-        unchanging("announce-again", table(64), last.port, again, 0b1101),
-        covered_row(),
-        replacing_row(),
-    ]
-}
-
-/// The last of 64 lines is a block of 256, and an event inside it is announced.
-fn covered_row() -> Row {
-    let mut gateway = table(64);
-    let block = &mut gateway.lines[63];
-    (block.k, block.port) = (8, 1);
-    let inside = message(CONSUMER_IDENTIFIED, block.node, block.start + 7);
-    unchanging("announce-inside", gateway, 1, inside, 0b1101)
-}
-
-/// In 128 lines, one node has every other line, and announces a block that holds them all.
-fn replacing_row() -> Row {
-    let (many, first) = (NODE + 1_000, EVENT + 0x10_0000);
-    let mut gateway = table(128);
-    for (event, line) in (0..).zip(gateway.lines[..128].iter_mut().step_by(2)) {
-        *line = Line {
-            node: many,
-            start: first + event,
-            k: 0,
-            port: 1,
-        };
-    }
-    let block = message(CONSUMER_RANGE_IDENTIFIED, many, first + 63);
-    changing("announce-over-64", gateway, 1, block, 65)
-}
-
-/// In 128 lines, one node has every other line and another has a single one in the middle.
-fn restart_rows() -> Vec<Row> {
-    let (many, single) = (NODE + 1_000, NODE + 2_000);
-    let mut gateway = table(128);
-    for line in gateway.lines[..128].iter_mut().step_by(2) {
-        (line.node, line.port) = (many, 1);
-    }
-    (gateway.lines[65].node, gateway.lines[65].port) = (single, 1);
-    vec![
-        changing("restart-1", gateway, 1, restart(single), 127),
-        changing("restart-64", gateway, 1, restart(many), 64),
-    ]
-}
-
-/// A box of four ports with these many lines, none of them for port 0.
-fn table(count: usize) -> quick::Gateway {
-    let mut gateway = quick::Gateway::start(4, HOUSE_NUMBER);
-    gateway.count = count;
-    for place in 0..count {
-        gateway.lines[place] = nth_line(place);
-    }
-    gateway
-}
-
-/// Every line another event, every fourth a range of 16; eight lines to a node.
-fn nth_line(place: usize) -> Line {
-    Line {
-        node: NODE + place as u64 / 8,
-        start: EVENT + 256 * place as u64,
-        k: if place % 4 == 2 { 4 } else { 0 },
-        port: 1 + (place % 3) as u8,
-    }
-}
-
-fn message(mti: u16, source: u64, event: u64) -> Vec<u8> {
+pub fn message(mti: u16, source: u64, event: u64) -> Vec<u8> {
     let mut bytes = mti.to_be_bytes().to_vec();
     bytes.extend(&source.to_be_bytes()[2..]);
     bytes.extend(event.to_be_bytes());
     bytes
 }
 
-fn restart(source: u64) -> Vec<u8> {
+pub fn restart(source: u64) -> Vec<u8> {
     let mut bytes = RESTART.to_be_bytes().to_vec();
     bytes.extend(&source.to_be_bytes()[2..]);
     bytes.extend(&source.to_be_bytes()[2..]);
     bytes
-}
-
-/// A message that leaves the state as it was, so the calls go on with the same one.
-fn unchanging(
-    name: &'static str,
-    start: quick::Gateway,
-    port: u8,
-    bytes: Vec<u8>,
-    sent: u8,
-) -> Row {
-    let after = agreed_state(&start, port, &bytes, sent);
-    assert_eq!(after.lines(), start.lines());
-    box_row(name, &start, port, &bytes, false)
-}
-
-/// A message that changes the state: every call takes a fresh copy, which counts.
-fn changing(
-    name: &'static str,
-    start: quick::Gateway,
-    port: u8,
-    bytes: Vec<u8>,
-    count: usize,
-) -> Row {
-    let after = agreed_state(&start, port, &bytes, 0b1101);
-    assert_eq!(after.count, count);
-    box_row(name, &start, port, &bytes, true)
-}
-
-/// By value the state is copied in every row, so the call's own copy is the fresh one.
-fn box_row(name: &'static str, start: &quick::Gateway, port: u8, bytes: &[u8], fresh: bool) -> Row {
-    let proved = as_proved(start);
-    let (lent, passed) = (bytes.to_vec(), bytes.to_vec());
-    let quick = |check| {
-        let bytes = bytes.to_vec();
-        repeat_on(*start, fresh, move |gateway| {
-            gateway.receive(port, black_box(&bytes), check)
-        })
-    };
-    Row {
-        name,
-        calls: [
-            Some(repeat_on(proved, fresh, move |gateway| {
-                proved::receive_lent(gateway, port, black_box(&lent))
-            })),
-            Some(repeat(move || {
-                proved::receive(black_box(&proved), port, black_box(&passed))
-            })),
-            Some(quick(true)),
-            Some(quick(false)),
-        ],
-    }
-}
-
-/// Calls in place on one state, or each on a fresh copy of it.
-fn repeat_on<State: Copy + 'static>(
-    mut state: State,
-    fresh: bool,
-    call: impl Fn(&mut State) -> (u8, u8) + 'static,
-) -> Call {
-    if !fresh {
-        return repeat(move || call(black_box(&mut state)));
-    }
-    repeat(move || {
-        let mut copy = *black_box(&state);
-        let answer = call(black_box(&mut copy));
-        black_box(&copy);
-        answer
-    })
-}
-
-/// The state afterwards, once all four columns have given the same answer.
-fn agreed_state(start: &quick::Gateway, port: u8, bytes: &[u8], sent: u8) -> quick::Gateway {
-    let (mut checked, mut unchecked, mut in_place) = (*start, *start, as_proved(start));
-    let by_value = proved::receive(&in_place, port, bytes);
-    for answer in [
-        proved::receive_lent(&mut in_place, port, bytes),
-        (by_value.refusal, by_value.sent),
-        checked.receive(port, bytes, true),
-        unchecked.receive(port, bytes, false),
-    ] {
-        assert_eq!(answer, (0, sent));
-    }
-    let expected = as_proved(&checked);
-    for after in [in_place, by_value.gateway, as_proved(&unchecked)] {
-        assert_eq!(after.head, expected.head);
-        assert_eq!(after.lines(), expected.lines());
-    }
-    checked
-}
-
-fn as_proved(quick: &quick::Gateway) -> proved::Gateway {
-    let (start, k) = quick.automatic;
-    proved::Gateway {
-        head: proved::Head {
-            ports: quick.ports,
-            marks: quick.marks,
-            automatic: proved::Block { start, k },
-            count: quick.count,
-        },
-        nodes: quick.lines.map(|line| line.node),
-        starts: quick.lines.map(|line| line.start),
-        ports: quick.lines.map(|line| line.port),
-        sizes: quick.lines.map(|line| line.k),
-    }
 }
 
 fn trial_row() -> Row {
