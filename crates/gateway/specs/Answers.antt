@@ -6,12 +6,12 @@ use mathlib.Core.List.{List}
 use lib.Dec.{eqb}
 use lib.ListN.{length}
 use Rattle.range.specs.declared.Block.{Block}
-use Rattle.range.specs.Range.{isBlock}
+use Rattle.range.specs.Range.{isBlock, inBlock}
 use Rattle.basics.specs.Lists.{any, firstOr}
 use Rattle.basics.specs.Sets.{setOf, inSet}
 use Rattle.message.specs.declared.Reading.{Reading}
 use Rattle.message.specs.declared.Saying.{Saying}
-use Rattle.message.specs.declared.Saying.the-variants.{Announcement, Nothing}
+use Rattle.message.specs.declared.Saying.the-variants.{Report, Announcement, Restart, Inquiry, InquiryForAll, Learn, Nothing}
 use Rattle.message.specs.Reading.{readingTold}
 use Rattle.message.specs.Saying.{saidBy}
 use Rattle.gateway_rules.specs.declared.Line.{Line}
@@ -21,6 +21,8 @@ use Rattle.gateway.specs.declared.Answer.{Answer}
 use Rattle.gateway.specs.declared.LentAnswer.{LentAnswer}
 use Rattle.gateway.specs.declared.state.Head.{Head}
 use Rattle.gateway.specs.declared.state.Gateway.{Gateway}
+use Rattle.gateway.specs.declared.pass.Asked.{Asked}
+use Rattle.gateway.specs.declared.pass.Asked.the-variants.{Everyone, Holders}
 use Rattle.gateway.specs.declared.lines.Gone.{Gone}
 use Rattle.gateway.specs.declared.lines.Gone.the-variants.{OfNode, HeldBy}
 use Rattle.gateway.specs.declared.lines.Standing.{Standing}
@@ -70,6 +72,16 @@ saidIn r = firstOr Nothing saidBy (readingTold r .value)
 -- The ports that want what is said, as a number.
 abbrev pub wantedBy : Gate → Saying → ℕ
 wantedBy g s = setOf 8 (λ p. wantedAt g p s)
+
+-- Who wants what is said: of a report that is not automatic those who have a line that holds its event, of all else everyone.
+abbrev pub askedBy : Block → Saying → Asked
+askedBy automatic (Report e) = cond (inBlock automatic e) Everyone (Holders e)
+askedBy automatic (Announcement b) = Everyone
+askedBy automatic Restart = Everyone
+askedBy automatic (Inquiry role e) = Everyone
+askedBy automatic (InquiryForAll destination) = Everyone
+askedBy automatic (Learn e) = Everyone
+askedBy automatic Nothing = Everyone
 
 -- The ports of a set, and those that have a line that holds the event.
 abbrev pub holding : ℕ → ℕ → List Line → ℕ

@@ -8,7 +8,7 @@ ghost use Rattle.basics.specs.Sets.{setOf, inSet};
 ghost use Rattle.gateway_rules.specs.State.{badLine, outOfBounds};
 ghost use Rattle.gateway_rules.specs.Step.{lineHolds};
 ghost use Rattle.gateway.specs.State.{Whole, badHead, linesIn, gateIn, held, entered};
-ghost use Rattle.gateway.specs.Answers.{holding, wantedBy};
+ghost use Rattle.gateway.specs.Answers.{holding, wantedBy, askedBy};
 use crate::Head;
 use crate::bounds;
 use crate::lines;
@@ -16,6 +16,7 @@ use crate::port_sets;
 use gateway_rules::Line;
 use message::Saying;
 use range::Answer;
+use range::Block;
 
 const EVERY: u8 = 255;
 
@@ -38,12 +39,9 @@ pub(crate) fn over_lines(
     ensures { λ r. ⌜ r .bad ≡ outOfBounds (gateIn head (entered nodes starts ports sizes)) ⌝ }
     ensures { λ r. ⌜ (r .bad ≡ false → r .wanted ≡ wantedBy (gateIn head (entered nodes starts ports sizes)) saying) ⌝ }
 {
-    let automatic = head.automatic;
-    let Saying::Report(e) = saying else {
-        return everywhere(head.count, nodes, starts, ports, sizes, head.ports);
-    };
-    let Answer::Yes = range::holds(automatic, e) else {
-        return looked_up(
+    match who_is_asked(head.automatic, saying) {
+        Asked::Everyone => everywhere(head.count, nodes, starts, ports, sizes, head.ports),
+        Asked::Holders(e) => looked_up(
             head.count,
             nodes,
             starts,
@@ -52,9 +50,28 @@ pub(crate) fn over_lines(
             head.ports,
             e,
             head.marks,
-        );
+        ),
+    }
+}
+
+// Who wants what is said: every port, or those that have a line which holds an event.
+pub(crate) enum Asked {
+    Everyone,
+    Holders(u64),
+}
+
+fn who_is_asked(automatic: Block, saying: Saying) -> Asked
+    requires { ⌜ isBlock automatic ≡ true ⌝ }
+    ensures { λ r. ⌜ r ≡ askedBy automatic saying ⌝ }
+{
+    let Saying::Report(e) = saying else {
+        return Asked::Everyone;
     };
-    everywhere(head.count, nodes, starts, ports, sizes, head.ports)
+    match range::holds(automatic, e) {
+        Answer::Yes => Asked::Everyone,
+        Answer::No => Asked::Holders(e),
+        Answer::NoBlock => Asked::Holders(e),
+    }
 }
 
 fn everywhere(
