@@ -27,7 +27,7 @@ module _ {A : Type 0} where
       turned false false c d = refl
 
   -- A test of a part of each line is one of the list of those parts.
-  pub any-part : (test : A → Bool) (part : Line → A) (n : ℕ) (at : ℕ → Line) → any (λ l. test (part l)) (each n at) ≡ any test (each n (λ i. part (at i)))
+  any-part : (test : A → Bool) (part : Line → A) (n : ℕ) (at : ℕ → Line) → any (λ l. test (part l)) (each n at) ≡ any test (each n (λ i. part (at i)))
   unfolding each
   any-part test part zero at = refl
   any-part test part (suc n) at =

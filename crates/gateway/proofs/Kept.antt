@@ -9,7 +9,7 @@ use Rattle.gateway_rules.specs.declared.Line.{Line}
 use Rattle.gateway.specs.State.{Lists, lineAt, Whole, linesIn, putAt}
 use Rattle.basics.specs.Lists.{any, without}
 use Rattle.basics.proofs.Lists.{without-nothing}
-use Rattle.gateway.proofs.Firsts.{no-places, left-out, kept-on}
+use Rattle.gateway.proofs.Firsts.{left-out, kept-on}
 use Rattle.gateway.proofs.Places.{put-last, put-elsewhere, put-whole}
 
 pub record Kept (out : Line → Bool) (before there : Lists) (i j : ℕ) : Type 0 where
@@ -24,9 +24,6 @@ none-gone out before n w none = record {
   stay = sym (without-nothing out (linesIn n before) none);
   rest = λ _ _. refl;
 }
-
-pub none-passed : (out : Line → Bool) (before : Lists) → Whole before → Kept out before before 0 0
-none-passed out before w = none-gone out before 0 w (ap (any out) (no-places (lineAt before)))
 
 module _ (out : Line → Bool) (before there : Lists) (i j : ℕ) (l : Line) (k : Kept out before there i j) (at : l ≡ lineAt there i) where
   here : l ≡ lineAt before i

@@ -1,21 +1,13 @@
 -- By the ports, by the Node IDs, then by the blocks.
-use Prim.Native.Nat.{ℕ}
-use mathlib.Core.Path.{_≡_, sym, ap, _∙_}
+use mathlib.Core.Path.{sym, ap, _∙_}
 use mathlib.Core.Bool.{Bool, _||_, not}
-use lib.Dec.{leb}
 use Rattle.range.specs.Range.{isBlock}
 use Rattle.message.specs.Messages.{badNode}
 use Rattle.basics.specs.Lists.{any}
 use Rattle.gateway.specs.State.{firstNumbers, firstBlocks, held}
 use Rattle.gateway.proofs.Columns.{bad-lines-parts}
-use borrow.Author.Needs.{needs}
 use Rattle.gateway.proofs.bounds.bad_lines.Statement.{statement}
 use Rattle.gateway.proofs.bounds.bad_lines.Tie as tie
-use Rattle.gateway.proofs.bounds.bad_lines.Reads as reads
-use Rattle.gateway.proofs.bounds.bad_lines.Lts as lts
-use Rattle.gateway.proofs.bounds.some_bad_node.Reads as some-bad-node-reads
-use Rattle.gateway.proofs.bounds.some_no_block.Reads as some-no-block-reads
-use Rattle.gateway.proofs.bounds.some_port_past.Reads as some-port-past-reads
 
 some-port-past-requires : tie.Need-some-port-past-requires
 some-port-past-requires c κs = (c .before .before .before .before .pre .0, c .before .before .before .before .pre .1 .2)

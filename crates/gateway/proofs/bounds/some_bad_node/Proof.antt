@@ -1,10 +1,9 @@
 -- It is known whether one of the Node IDs before place i is 0, and whether one has more than six bytes.
-use Prim.Native.Nat.{ℕ, _+_, _-_, _*_, _/_, _^_, _≤_}
+use Prim.Native.Nat.{ℕ, _-_, _*_, _^_, _≤_}
 use mathlib.Core.Path.{_≡_, sym, ap, _∙_}
 use mathlib.Core.Bool.{Bool, not, _||_}
 use mathlib.Core.List.{List}
 use native.Mathlib.Omega.{arith}
-use borrow.Author.Needs.{needs}
 use borrow.Author.Tests.{eq-eqb, ne-eqb}
 use lib.Dec.{eqb, leb}
 use lib.ListN.{getD}
@@ -14,8 +13,6 @@ use Rattle.gateway.proofs.Columns.{any-either, raised}
 use Rattle.gateway.proofs.Firsts.{no-places, any-more, not-more, now-more}
 use Rattle.gateway.proofs.bounds.some_bad_node.Statement.{statement}
 use Rattle.gateway.proofs.bounds.some_bad_node.Tie as tie
-use Rattle.gateway.proofs.bounds.some_bad_node.Reads as reads
-use Rattle.gateway.proofs.bounds.some_bad_node.Lts as lts
 
 abbrev Inv-loop : tie.InvT-loop
 Inv-loop count nodes zero₀ above₀ i₀ zero above i =

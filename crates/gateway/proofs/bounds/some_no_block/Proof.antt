@@ -1,9 +1,8 @@
 -- The blocks before place i are blocks.
 use Prim.Native.Nat.{ℕ, _-_, _≤_}
 use mathlib.Core.Path.{_≡_, sym, ap, _∙_}
-use mathlib.Core.Bool.{Bool, true, false, not}
+use mathlib.Core.Bool.{false, not}
 use native.Mathlib.Omega.{arith}
-use borrow.Author.Needs.{needs}
 use lib.ListN.{getD}
 use Rattle.range.specs.declared.Block.{Block}
 use Rattle.range.specs.Range.{isBlock}
@@ -12,9 +11,6 @@ use Rattle.gateway.specs.State.{firstBlocks}
 use Rattle.gateway.proofs.Firsts.{no-places, not-more, any-at}
 use Rattle.gateway.proofs.bounds.some_no_block.Statement.{statement}
 use Rattle.gateway.proofs.bounds.some_no_block.Tie as tie
-use Rattle.gateway.proofs.bounds.some_no_block.Reads as reads
-use Rattle.gateway.proofs.bounds.some_no_block.Lts as lts
-use Rattle.range.proofs.is_block.Reads as is-block-reads
 
 abbrev Inv-loop : tie.InvT-loop
 Inv-loop count starts sizes i₀ i = (i ≤ count) × (any (λ b. not (isBlock b)) (firstBlocks i starts sizes) ≡ false)

@@ -2,7 +2,6 @@
 use Prim.Native.Nat.{ℕ, _-_, _≤_}
 use mathlib.Core.Path.{_≡_, sym, ap, _∙_}
 use native.Mathlib.Omega.{arith}
-use borrow.Author.Needs.{needs}
 use borrow.Author.Tests.{le-leb, lt-leb}
 use lib.Dec.{leb}
 use lib.ListN.{getD}
@@ -11,8 +10,6 @@ use Rattle.gateway.specs.State.{firstNumbers}
 use Rattle.gateway.proofs.Firsts.{no-places, not-more, now-more}
 use Rattle.gateway.proofs.bounds.some_port_past.Statement.{statement}
 use Rattle.gateway.proofs.bounds.some_port_past.Tie as tie
-use Rattle.gateway.proofs.bounds.some_port_past.Reads as reads
-use Rattle.gateway.proofs.bounds.some_port_past.Lts as lts
 
 abbrev Inv-loop : tie.InvT-loop
 Inv-loop count ports below past₀ i₀ past i = (i ≤ count) × (past ≡ any (leb below) (firstNumbers i ports))

@@ -12,10 +12,6 @@ use Rattle.gateway.proofs.Places.{line-tells}
 use Rattle.gateway.proofs.Going.{comparable-at}
 use Rattle.gateway.proofs.lines.before_gone.Statement.{statement}
 use Rattle.gateway.proofs.lines.before_gone.Tie as tie
-use Rattle.gateway.proofs.lines.before_gone.Reads as reads
-use Rattle.gateway.proofs.lines.before_gone.Lts as lts
-use Rattle.gateway.proofs.lines.goes.Reads as goes-reads
-use Rattle.gateway.proofs.lines.line_at.Reads as line-at-reads
 
 abbrev Inv-loop : tie.InvT-loop
 Inv-loop count nodes starts ports sizes gone i₀ i = (i ≤ count) × (any (goesBy gone) (linesIn i (lists nodes starts ports sizes)) ≡ false)

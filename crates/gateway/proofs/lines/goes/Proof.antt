@@ -1,5 +1,5 @@
 -- By its node, or by its block.
-use mathlib.Core.Path.{_≡_, sym, ap, _∙_, subst}
+use mathlib.Core.Path.{sym, ap, _∙_, subst}
 use mathlib.Core.Bool.{false}
 use mathlib.Core.List.{[], _∷_}
 use borrow.Author.Needs.{needs}
@@ -11,9 +11,6 @@ use Rattle.gateway.specs.State.{noBlock}
 use Rattle.gateway.specs.Answers.{goesBy, Comparable}
 use Rattle.gateway.proofs.lines.goes.Statement.{statement}
 use Rattle.gateway.proofs.lines.goes.Tie as tie
-use Rattle.gateway.proofs.lines.goes.Reads as reads
-use Rattle.gateway.proofs.lines.goes.Lts as lts
-use Rattle.gateway.proofs.lines.within.Reads as within-reads
 
 enum-known-gone : tie.Need-enum-known-gone
 enum-known-gone c = search needs

@@ -12,10 +12,6 @@ use Rattle.gateway.proofs.Places.{block-at, line-tells}
 use Rattle.gateway.proofs.Lookup.{stands-covered, stands-holding, stands-new, other-node}
 use Rattle.gateway.proofs.lines.looked_for.Statement.{statement}
 use Rattle.gateway.proofs.lines.looked_for.Tie as tie
-use Rattle.gateway.proofs.lines.looked_for.Reads as reads
-use Rattle.gateway.proofs.lines.looked_for.Lts as lts
-use Rattle.gateway.proofs.lines.line_at.Reads as line-at-reads
-use Rattle.gateway.proofs.lines.within.Reads as within-reads
 
 abbrev Inv-loop : tie.InvT-loop
 Inv-loop count nodes starts ports sizes l holding₀ i₀ holding i =

@@ -10,12 +10,6 @@ use Rattle.gateway.proofs.Going.{comparable-at}
 use Rattle.gateway.proofs.Kept.{Kept, none-gone, passed-over, kept-here}
 use Rattle.gateway.proofs.lines.without.Statement.{statement}
 use Rattle.gateway.proofs.lines.without.Tie as tie
-use Rattle.gateway.proofs.lines.without.Reads as reads
-use Rattle.gateway.proofs.lines.without.Lts as lts
-use Rattle.gateway.proofs.lines.before_gone.Reads as before-gone-reads
-use Rattle.gateway.proofs.lines.goes.Reads as goes-reads
-use Rattle.gateway.proofs.lines.line_at.Reads as line-at-reads
-use Rattle.gateway.proofs.lines.put_line.Reads as put-line-reads
 
 abbrev Inv-loop : tie.InvT-loop
 Inv-loop count nodes₀ starts₀ ports₀ sizes₀ gone first i₀ j₀ nodes starts ports sizes i j =

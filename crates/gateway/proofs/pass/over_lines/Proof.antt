@@ -7,11 +7,6 @@ use Rattle.gateway.proofs.InBounds.{by-head, few-lines, few-ports, auto
 use Rattle.gateway.proofs.Wanting.{wanted-by}
 use Rattle.gateway.proofs.pass.over_lines.Statement.{statement}
 use Rattle.gateway.proofs.pass.over_lines.Tie as tie
-use Rattle.gateway.proofs.pass.over_lines.Reads as reads
-use Rattle.gateway.proofs.pass.over_lines.Lts as lts
-use Rattle.gateway.proofs.pass.everywhere.Reads as everywhere-reads
-use Rattle.gateway.proofs.pass.looked_up.Reads as looked-up-reads
-use Rattle.gateway.proofs.pass.who_is_asked.Reads as who-is-asked-reads
 
 who-is-asked-requires : tie.Need-who-is-asked-requires
 who-is-asked-requires c κs = automatic-block (c .before .before .before .before .args .head) (c .before .before .before .before .pre .1)

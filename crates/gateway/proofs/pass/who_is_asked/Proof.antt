@@ -5,9 +5,6 @@ use Rattle.range.proofs.Laws.{answer-says}
 use Rattle.gateway.proofs.Wanting.{no-report, automatic-report, looked-up-report}
 use Rattle.gateway.proofs.pass.who_is_asked.Statement.{statement}
 use Rattle.gateway.proofs.pass.who_is_asked.Tie as tie
-use Rattle.gateway.proofs.pass.who_is_asked.Reads as reads
-use Rattle.gateway.proofs.pass.who_is_asked.Lts as lts
-use Rattle.range.proofs.holds.Reads as holds-reads
 
 enum-known-saying : tie.Need-enum-known-saying
 enum-known-saying c = search needs
