@@ -6,13 +6,12 @@ use mathlib.Core.List.{List, [], _∷_}
 use native.Mathlib.Omega.{arith}
 use borrow.Author.Tests.{eq-eqb, ne-eqb, eqb-true, eqb-false, leb-true, leb-false}
 use lib.Dec.{eqb, leb}
-use Rattle.range.specs.Range.{isBlock}
 use Rattle.message.specs.Messages.{badNode}
 use Rattle.basics.specs.Lists.{any, each}
 use Rattle.basics.proofs.Lists.{any-append}
 use Rattle.gateway_rules.specs.declared.Line.{Line}
 use Rattle.gateway_rules.specs.State.{badLine}
-use Rattle.gateway.specs.State.{Lists, lineAt, linesIn, firstNumbers, firstBlocks, noBlock}
+use Rattle.gateway.specs.State.{Lists, lineAt, linesIn, firstNumbers, firstBlocks, noBlock, notBlock}
 
 module _ {A : Type 0} where
   -- One of two tests is passed by some, if the one is or the other is.
@@ -37,14 +36,14 @@ module _ {A : Type 0} where
 
 pub bad-lines-parts : (below n : ℕ) (t : Lists)
     → any (badLine below) (linesIn n t)
-    ≡ (any (leb below) (firstNumbers n (t .ports)) || (any badNode (firstNumbers n (t .nodes)) || any (λ b. not (isBlock b)) (firstBlocks n (t .starts) (t .sizes))))
+    ≡ (any (leb below) (firstNumbers n (t .ports)) || (any badNode (firstNumbers n (t .nodes)) || any notBlock (firstBlocks n (t .starts) (t .sizes))))
 bad-lines-parts below n t =
     let lines = linesIn n t in
     any-either (λ l. leb below (l .port)) (λ l. badNode (l .node) || noBlock l) lines
     ∙ ap₂ (λ (a b : Bool). a || b)
     (any-part (leb below) (λ l. l .port) n (lineAt t))
     (any-either (λ l. badNode (l .node)) noBlock lines
-    ∙ ap₂ (λ (a b : Bool). a || b) (any-part badNode (λ l. l .node) n (lineAt t)) (any-part (λ b. not (isBlock b)) (λ l. l .block) n (lineAt t)))
+    ∙ ap₂ (λ (a b : Bool). a || b) (any-part badNode (λ l. l .node) n (lineAt t)) (any-part notBlock (λ l. l .block) n (lineAt t)))
 
 -- ---- what is above six bytes, added up
 

@@ -100,7 +100,7 @@ abbrev pub goesBy : Gone → Line → Bool
 goesBy (OfNode node) = ofNode node
 goesBy (HeldBy l) = heldBy l
 
--- Where lines go by their blocks, all of them are blocks.
+-- Where lines go by their blocks, theirs and that of the line which holds them are blocks.
 abbrev pub Comparable : Gone → List Line → Type 0
 Comparable (OfNode node) lines = Unit {0}
 Comparable (HeldBy l) lines = (isBlock (l .block) ≡ true) × (any noBlock lines ≡ false)

@@ -69,9 +69,12 @@ putAt i l t = lists (set (t .nodes) i (l .node)) (set (t .starts) i (l .block .s
 abbrev pub Whole : Lists → Type 0
 Whole t = (length (t .nodes) ≡ full) × (length (t .starts) ≡ full) × (length (t .ports) ≡ full) × (length (t .sizes) ≡ full)
 
--- A line whose block is none.
+-- A block that is none, and a line with such a one.
+abbrev pub notBlock : Block → Bool
+notBlock b = not (isBlock b)
+
 abbrev pub noBlock : Line → Bool
-noBlock l = not (isBlock (l .block))
+noBlock l = notBlock (l .block)
 
 -- ---- the same state
 

@@ -4,17 +4,18 @@ ghost use Prim.Native.Nat.{_≤_, _<_};
 ghost use mathlib.Core.Bool.{not};
 ghost use lib.Dec.{leb};
 ghost use lib.ListN.{length};
-ghost use Rattle.range.specs.Range.{isBlock, hasNumber};
+ghost use Rattle.range.specs.Range.{hasNumber};
 ghost use Rattle.message.specs.Messages.{badNode};
 ghost use Rattle.basics.specs.Lists.{any};
 ghost use Rattle.basics.specs.Sets.{inSet};
 ghost use Rattle.gateway_rules.specs.State.{badPorts, badLine, strayMark};
-ghost use Rattle.gateway.specs.State.{Whole, badHead, linesIn, firstNumbers, firstBlocks, held, entered};
+ghost use Rattle.gateway.specs.State.{Whole, badHead, linesIn, firstNumbers, firstBlocks, notBlock, held, entered};
 use crate::Head;
 use gateway_rules::Line;
 use range::Block;
 
-const PAST_NODE_IDS: u64 = 281474976710656;
+// Every Node ID is below it.
+const PAST_NODE_IDS: u64 = 0x1_0000_0000_0000;
 
 // All but the lines.
 pub(crate) fn bad_head(head: Head) -> bool
@@ -134,7 +135,7 @@ fn some_bad_node(count: usize, nodes: &[u64]) -> bool
 // Whether a line's block is none.
 fn some_no_block(count: usize, starts: &[u64], sizes: &[u8]) -> bool
     requires { ⌜ (count ≤ 256) × (length (starts .now) ≡ 256) × (length (sizes .now) ≡ 256) ⌝ }
-    ensures { λ yes. ⌜ yes ≡ any (λ b. not (isBlock b)) (firstBlocks count (now (starts .entry)) (now (sizes .entry))) ⌝ }
+    ensures { λ yes. ⌜ yes ≡ any notBlock (firstBlocks count (now (starts .entry)) (now (sizes .entry))) ⌝ }
 {
     let mut i = 0;
     while i < count {

@@ -72,7 +72,7 @@ pub(crate) fn looked_for(
     let mut i = 0;
     while i < count {
         let x = line_at(nodes, starts, ports, sizes, i);
-        // Most lines are another node's, and nothing else is asked of those.
+        // Of another node's line nothing else is asked.
         if x.node != l.node {
             i += 1;
             continue;
@@ -117,7 +117,7 @@ fn within(a: Line, b: Line) -> bool
 }
 
 // Which lines are taken out: those of a node, or those that a line holds.
-pub(crate) enum Gone {
+enum Gone {
     OfNode(u64),
     HeldBy(Line),
 }
@@ -135,7 +135,7 @@ pub(crate) fn without_node(
     requires { ⌜ Whole (held nodes starts ports sizes) ⌝ }
     ensures { λ kept. ⌜ linesIn kept (left nodes starts ports sizes) ≡ without (ofNode node) (linesIn count (entered nodes starts ports sizes)) ⌝ }
 {
-    without(count, nodes, starts, ports, sizes, Gone::OfNode(node))
+    take_out(count, nodes, starts, ports, sizes, Gone::OfNode(node))
 }
 
 // Takes the lines out that one holds, and answers how many stay.
@@ -153,11 +153,11 @@ pub(crate) fn without_held(
     requires { ⌜ any noBlock (linesIn count (held nodes starts ports sizes)) ≡ false ⌝ }
     ensures { λ kept. ⌜ linesIn kept (left nodes starts ports sizes) ≡ without (heldBy l) (linesIn count (entered nodes starts ports sizes)) ⌝ }
 {
-    without(count, nodes, starts, ports, sizes, Gone::HeldBy(l))
+    take_out(count, nodes, starts, ports, sizes, Gone::HeldBy(l))
 }
 
-// One pass, the rest keeping their order: nothing is written before the first that goes, and each that stays behind it once.
-fn without(
+// One pass, the rest keeping their order: it goes on where the first that goes was found, and writes each that stays behind it once.
+fn take_out(
     count: usize,
     nodes: &mut [u64],
     starts: &mut [u64],

@@ -1,4 +1,4 @@
-// One pass over the lines: whether one is out of bounds, and which ports a message is wanted at.
+// Whether a line is out of bounds, and which ports a message is wanted at: of a report that is looked up in one pass over the lines.
 ghost use mathlib.Core.Path.{_≡_};
 ghost use mathlib.Core.Bool.{true, false, _||_};
 ghost use Prim.Native.Nat.{_≤_, _<_};
@@ -25,7 +25,7 @@ pub(crate) struct Passed {
     pub(crate) wanted: u8,
 }
 
-// A line that is out of bounds ends the pass. Only the event of a report that is not automatic is looked up.
+// Only the event of a report that is not automatic is looked up.
 pub(crate) fn over_lines(
     head: Head,
     nodes: &[u64],

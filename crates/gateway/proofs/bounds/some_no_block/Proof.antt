@@ -5,15 +5,14 @@ use mathlib.Core.Bool.{false, not}
 use native.Mathlib.Omega.{arith}
 use lib.ListN.{getD}
 use Rattle.range.specs.declared.Block.{Block}
-use Rattle.range.specs.Range.{isBlock}
 use Rattle.basics.specs.Lists.{any}
-use Rattle.gateway.specs.State.{firstBlocks}
+use Rattle.gateway.specs.State.{firstBlocks, notBlock}
 use Rattle.gateway.proofs.Firsts.{no-places, not-more, any-at}
 use Rattle.gateway.proofs.bounds.some_no_block.Statement.{statement}
 use Rattle.gateway.proofs.bounds.some_no_block.Tie as tie
 
 abbrev Inv-loop : tie.InvT-loop
-Inv-loop count starts sizes i₀ i = (i ≤ count) × (any (λ b. not (isBlock b)) (firstBlocks i starts sizes) ≡ false)
+Inv-loop count starts sizes i₀ i = (i ≤ count) × (any notBlock (firstBlocks i starts sizes) ≡ false)
 
 abbrev μ-loop : tie.MeasureT-loop
 μ-loop count starts sizes i₀ i = count - i
@@ -22,7 +21,7 @@ loop-holds : tie.Need-loop-holds Inv-loop μ-loop
 loop-holds c =
     let a = c .before .before .args in
     let at : ℕ → Block = λ i. record { start = getD (a .starts .now) i 0; k = getD (a .sizes .now) i 0 } in
-    (omega arith, ap (any (λ b. not (isBlock b))) (no-places at))
+    (omega arith, ap (any notBlock) (no-places at))
 
 mul-t7 : tie.Need-mul-t7 Inv-loop μ-loop
 mul-t7 c = omega arith
@@ -40,7 +39,7 @@ returns : tie.Need-returns Inv-loop μ-loop
 returns c =
     let a = c .before .before .before .before .before .before .before .before .args in
     let at : ℕ → Block = λ i. record { start = getD (a .starts .now) i 0; k = getD (a .sizes .now) i 0 } in
-    sym (any-at (λ b. not (isBlock b)) (a .count) at (c .before .before .before .before .before .loop .i) (omega arith) (ap not (sym (c .before .is-block .ensures)) ∙ c .if1 .taken))
+    sym (any-at notBlock (a .count) at (c .before .before .before .before .before .loop .i) (omega arith) (ap not (sym (c .before .is-block .ensures)) ∙ c .if1 .taken))
 
 add-i : tie.Need-add-i Inv-loop μ-loop
 add-i c = omega arith
@@ -52,14 +51,14 @@ loop-again : tie.Need-loop-again Inv-loop μ-loop
 loop-again c =
     let a = c .before .before .before .before .before .before .before .before .args in
     let at : ℕ → Block = λ i. record { start = getD (a .starts .now) i 0; k = getD (a .sizes .now) i 0 } in
-    (omega arith, not-more (λ b. not (isBlock b)) (c .before .before .before .before .before .loop .i) at (ap not (sym (c .before .is-block .ensures)) ∙ c .if1 .left) ∙ c .before .before .before .before .before .loop .inv .1)
+    (omega arith, not-more notBlock (c .before .before .before .before .before .loop .i) at (ap not (sym (c .before .is-block .ensures)) ∙ c .if1 .left) ∙ c .before .before .before .before .before .loop .inv .1)
 
 returns-2 : tie.Need-returns-2 Inv-loop μ-loop
 returns-2 c =
     let a = c .before .before .before .before .args in
     let s = c .before .loop in
     let all : s .i ≡ a .count = omega arith in
-    sym (s .inv .1) ∙ ap (λ (k : ℕ). any (λ b. not (isBlock b)) (firstBlocks k (a .starts .now) (a .sizes .now))) all
+    sym (s .inv .1) ∙ ap (λ (k : ℕ). any notBlock (firstBlocks k (a .starts .now) (a .sizes .now))) all
 
 pub some-no-block-spec : {M : Type 1} → statement M
 some-no-block-spec =

@@ -8,8 +8,8 @@ use Rattle.gateway.specs.Answers.{goesBy}
 use Rattle.basics.specs.Lists.{without}
 use Rattle.gateway.proofs.Going.{comparable-at}
 use Rattle.gateway.proofs.Kept.{Kept, none-gone, passed-over, kept-here}
-use Rattle.gateway.proofs.lines.without.Statement.{statement}
-use Rattle.gateway.proofs.lines.without.Tie as tie
+use Rattle.gateway.proofs.lines.take_out.Statement.{statement}
+use Rattle.gateway.proofs.lines.take_out.Tie as tie
 
 abbrev Inv-loop : tie.InvT-loop
 Inv-loop count nodes₀ starts₀ ports₀ sizes₀ gone first i₀ j₀ nodes starts ports sizes i j =
@@ -91,8 +91,8 @@ returns c =
     let all : s .i ≡ a .count = omega arith in
     s .inv .2 .stay ∙ ap (λ (k : ℕ). without (goesBy (a .gone)) (linesIn k t)) all
 
-pub without-spec : {M : Type 1} → statement M
-without-spec =
+pub take-out-spec : {M : Type 1} → statement M
+take-out-spec =
     tie.close
     (tie.spec
     Inv-loop
