@@ -1,0 +1,16 @@
+pub mod Comparing
+pub mod Passing
+pub mod Places
+pub mod Ranks
+pub mod Counting
+pub mod Order
+pub mod Testing
+pub mod Sorting
+pub mod Sorted
+pub mod Lowering
+pub mod Once
+pub mod Sizes
+pub mod Looking
+pub mod Boxes
+pub mod Spots
+pub mod IndexExamples

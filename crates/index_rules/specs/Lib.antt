@@ -1,0 +1,4 @@
+pub mod Index
+pub mod Agreeing
+pub mod Looking
+pub mod Boxes
