@@ -19,7 +19,7 @@ static hrislanoth_gateway box;
 static hrislanoth_lent_answer in_place(uint8_t port, const uint8_t *bytes, size_t length)
 {
     hrislanoth_lent_answer answer =
-        hrislanoth_receive_lent(box.head, box.nodes, 256, box.starts, 256, box.ports, 256, box.sizes, 256, port, bytes, length);
+        hrislanoth_receive_lent(box.head, box.nodes, 256, box.starts, 256, box.ports, 256, box.sizes, 256, box.order, 256, box.sets, 9, port, bytes, length);
     box.head.marks = answer.marks;
     box.head.count = answer.count;
     return answer;
@@ -62,7 +62,8 @@ static void ask_why(uint8_t asked)
     uint8_t bytes[16];
     hrislanoth_message report = {.mti = 0x05B4, .source = PANEL, .has_event = 1, .event = POINTS};
     hrislanoth_writing written = hrislanoth_write(report, (const uint8_t *)"", 0, bytes, sizeof bytes);
-    hrislanoth_reason why = hrislanoth_why(box.head, box.nodes, 256, box.starts, 256, box.ports, 256, box.sizes, 256, 0, asked, bytes, written.bytes);
+    hrislanoth_reason why = hrislanoth_why(box.head, box.nodes, 256, box.starts, 256, box.ports, 256, box.sizes, 256, box.order, 256, box.sets, 9, 0, asked,
+                                           bytes, written.bytes);
     printf("why at port %d: refusal %d, reason %d", asked, why.refusal, why.reason);
     if (why.reason == 4)
         printf(", line %zu of board %012" PRIX64, why.place, why.node);

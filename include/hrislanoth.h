@@ -6,7 +6,7 @@
  *
  * Memory is the caller's. A pointer and a length stand for that many bytes, or that many numbers or slots of a list, which the caller owns and keeps for the
  * call, and which no other thread writes meanwhile, or reads where the call writes. No pointer is kept. A pointer is never NULL, not even beside the length 0.
- * What a call writes (out, text, a box's four lists, a board's slots, or its statuses and marks) overlaps nothing else that it is given: the lists neither
+ * What a call writes (out, text, a box's lists, a board's slots, or its statuses and marks) overlaps nothing else that it is given: the lists neither
  * each other nor the bytes. Those three are all that a caller has to keep; nothing tests them.
  *
  * Link with target/staticlib/libc_face.a, which `rt staticlib c_face` writes, on x86-64.
@@ -128,13 +128,18 @@ typedef struct {
     size_t count;
 } hrislanoth_head;
 
-/* Line i is of node nodes[i] at port ports[i], for 2^sizes[i] events from starts[i] on. Places past the count are no part of the state. */
+/* Line i is of node nodes[i] at port ports[i], for 2^sizes[i] events from starts[i] on. order and sets are the index of these lines by block size (document 02, W6):
+ * order has the places of all lines, sorted by port, then size, then start, then place; bit k of sets[p] is set where port p has a line of size k, k from 0 to 63, and
+ * bit p of sets[8] where it has one of size 64, every event. An index that is not that of its lines is out of bounds (7), as a bad line is. Places of these lists past the count
+ * are no part of the state; of sets all nine are, always. */
 typedef struct {
     hrislanoth_head head;
     uint64_t nodes[256];
     uint64_t starts[256];
     uint8_t ports[256];
     uint8_t sizes[256];
+    uint8_t order[256];
+    uint64_t sets[9];
 } hrislanoth_gateway;
 
 /* The refusal or 0, the ports that it is sent to, bit p for port p, and the box afterwards. */
@@ -144,7 +149,7 @@ typedef struct {
     hrislanoth_gateway gateway;
 } hrislanoth_answer;
 
-/* The same where a box's lists are lent: its lines afterwards stand in those. Of its head, only the open marks and the line count can change. */
+/* The same where a box's lists are lent: its lines and their index afterwards stand in those. Of its head, only the open marks and the line count can change. */
 typedef struct {
     uint8_t refusal;
     uint8_t sent;
@@ -152,18 +157,19 @@ typedef struct {
     size_t count;
 } hrislanoth_lent_answer;
 
-/* A box with no lines and no open marks. 8 where ports is not 2 to 8: the box then has 0 ports, and every call refuses it with 7. */
+/* A box with no lines, no open marks and an empty index, every place of order and sets 0. 8 where ports is not 2 to 8: the box then has 0 ports, and every call refuses it with 7. */
 hrislanoth_answer hrislanoth_start(uint8_t ports, uint64_t automatic);
 
-/* A message at a port. 7 where the box is out of bounds, 8 where it has no such port, 1 to 5 where the message cannot be read. An Initialization Complete
- * takes the lines of its node at every port, and no other node's (document 02, W2); open marks stay. */
+/* A message at a port. 7 where the box is out of bounds or its index is another than that of its lines, 8 where it has no such port, 1 to 5 where the message cannot be read. An Initialization Complete
+ * takes the lines of its node at every port, and no other node's (document 02, W2); open marks stay. After an accepted message the index is that of the lines then. */
 hrislanoth_answer hrislanoth_receive(hrislanoth_gateway gateway, uint8_t port, const uint8_t *bytes, size_t length);
 
-/* The same in place, on the four lists of a box: 7 before all else where a list is not exactly 256 long, otherwise what hrislanoth_receive answers.
- * The lines change in the caller's lists; the head's marks and count afterwards are the answer's. A refusal changes nothing in any list, and its
- * marks and count are the head's. */
+/* The same in place, on the lists of a box: 7 before all else where sets is not exactly 9 long or another list not exactly 256, otherwise what hrislanoth_receive answers.
+ * The lines and the index change in the caller's lists; the head's marks and count afterwards are the answer's. A refusal changes nothing in any list, past the count
+ * neither, and its marks and count are the head's. */
 hrislanoth_lent_answer hrislanoth_receive_lent(hrislanoth_head head, uint64_t *nodes, size_t nodes_length, uint64_t *starts, size_t starts_length,
-                                               uint8_t *ports, size_t ports_length, uint8_t *sizes, size_t sizes_length, uint8_t port,
+                                               uint8_t *ports, size_t ports_length, uint8_t *sizes, size_t sizes_length,
+                                               uint8_t *order, size_t order_length, uint64_t *sets, size_t sets_length, uint8_t port,
                                                const uint8_t *bytes, size_t length);
 
 /* Why a report is sent to a port or held back from it (document 02, W1). reason is the first that applies: 1 the port is the arrival port, 2 the event is
@@ -178,10 +184,11 @@ typedef struct {
     hrislanoth_block block;
 } hrislanoth_reason;
 
-/* Why the report that arrives at a port goes to the asked port or does not. Nothing changes. 7 where a list is not exactly 256 long or the box is out of
- * bounds, 8 where it has no such arrival port or no such asked port, 1 to 5 where the message cannot be read, 15 where it is no event report. */
+/* Why the report that arrives at a port goes to the asked port or does not. Nothing changes. 7 where sets is not exactly 9 long, another list not exactly 256, or the box is
+ * out of bounds or its index another than that of its lines, 8 where it has no such arrival port or no such asked port, 1 to 5 where the message cannot be read, 15 where it is no event report. */
 hrislanoth_reason hrislanoth_why(hrislanoth_head head, const uint64_t *nodes, size_t nodes_length, const uint64_t *starts, size_t starts_length,
-                                 const uint8_t *ports, size_t ports_length, const uint8_t *sizes, size_t sizes_length, uint8_t port, uint8_t asked,
+                                 const uint8_t *ports, size_t ports_length, const uint8_t *sizes, size_t sizes_length,
+                                 const uint8_t *order, size_t order_length, const uint64_t *sets, size_t sets_length, uint8_t port, uint8_t asked,
                                  const uint8_t *bytes, size_t length);
 
 /* ---- the board (document 01, "Node") */

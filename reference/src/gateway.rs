@@ -2,12 +2,17 @@
 
 use std::collections::BTreeSet;
 
+use crate::index::{Index, SETS};
 use crate::message::{self, Message};
 use crate::range::{self, Comparison};
 use crate::refusal;
 
 /// The most lines of the table (01-scope, Gateway).
 pub const MOST_LINES: usize = 256;
+/// How long the lists are that a caller lends: nodes, starts, ports, sizes and order, and the sets of the index (01-scope, Gateway; 02, W6).
+pub const LENT_LENGTHS: [usize; 6] = [
+    MOST_LINES, MOST_LINES, MOST_LINES, MOST_LINES, MOST_LINES, SETS,
+];
 
 /// A line of the table: port, owner's Node ID, block as start and k (01-scope, Gateway).
 #[derive(Clone, Copy, Debug, PartialEq, Eq)]
@@ -39,13 +44,14 @@ impl Line {
     }
 }
 
-/// The state: port count, automatic block, table, open marks (01-scope, Gateway).
+/// The state: port count, automatic block, table, open marks (01-scope, Gateway), and the table's index (02, W6), which a given state can have wrong.
 #[derive(Clone, Debug, PartialEq, Eq)]
 pub struct Gateway {
     pub ports: u32,
     pub automatic: (u64, u32),
     pub lines: Vec<Line>,
     pub open: BTreeSet<u32>,
+    pub index: Index,
 }
 
 /// What a call answers beside the state: the refusal or 0, and the ports it is sent on to (01-scope, Gateway).
@@ -64,6 +70,7 @@ impl Gateway {
             automatic: range::block_of(automatic_number),
             lines: Vec::new(),
             open: BTreeSet::new(),
+            index: Index::of(&[]),
         };
         let refusal = if accepted {
             refusal::NONE
@@ -73,7 +80,13 @@ impl Gateway {
         (gateway, refusal)
     }
 
-    /// Whether the state is in bounds (01-scope, Gateway, "Out of bounds").
+    /// Puts other lines in the table's place, with their index (02, W6).
+    pub fn set_lines(&mut self, lines: Vec<Line>) {
+        self.index = Index::of(&lines);
+        self.lines = lines;
+    }
+
+    /// Whether the state is in bounds (01-scope, Gateway, "Out of bounds"), its index that of its table (02, W6).
     pub fn in_bounds(&self) -> bool {
         if !(2..=8).contains(&self.ports) {
             return false;
@@ -94,7 +107,7 @@ impl Gateway {
                 return false;
             }
         }
-        is_automatic_block(self.automatic)
+        is_automatic_block(self.automatic) && self.index == Index::of(&self.lines)
     }
 
     /// A message arrives at a port: refusals 7, 8, then reading (01-scope, Refusal numbers, order; Gateway).
@@ -175,9 +188,11 @@ impl Gateway {
         if self.lines.iter().any(|other| line.is_covered_by(other)) {
             return;
         }
-        self.lines.retain(|other| !line.is_over(other));
-        if self.lines.len() < MOST_LINES {
-            self.lines.push(line);
+        let mut lines = self.lines.clone();
+        lines.retain(|other| !line.is_over(other));
+        if lines.len() < MOST_LINES {
+            lines.push(line);
+            self.set_lines(lines);
             return;
         }
         self.open.insert(line.port);
@@ -192,7 +207,7 @@ impl Gateway {
             }
             kept.push(*line);
         }
-        self.lines = kept;
+        self.set_lines(kept);
     }
 }
 
@@ -288,9 +303,9 @@ mod tests {
             k: 2,
         };
         let mut equal = gateway(4);
-        equal.lines = vec![good; 256];
+        equal.set_lines(vec![good; 256]);
         assert!(equal.in_bounds());
-        equal.lines.push(good);
+        equal.set_lines(vec![good; 257]);
         assert!(!equal.in_bounds());
         for bad in [
             Line { port: 4, ..good },
@@ -303,7 +318,7 @@ mod tests {
             Line { k: 3, ..good },
         ] {
             let mut gateway = gateway(4);
-            gateway.lines = vec![good, bad];
+            gateway.set_lines(vec![good, bad]);
             assert!(!gateway.in_bounds());
         }
         for block in [(0, 0), (0, 65), (1, 1)] {

@@ -1,7 +1,8 @@
 //! The case files of the box (CASE-FILES; the box is that of 01-scope, Gateway).
 
 use crate::case_file::{places, text_of, Case};
-use crate::gateway::{Gateway, Line, Outcome, MOST_LINES};
+use crate::gateway::{Gateway, Line, Outcome, LENT_LENGTHS, MOST_LINES};
+use crate::index::{Index, SETS};
 use crate::refusal;
 use crate::why::Reason;
 
@@ -23,6 +24,8 @@ struct Bench {
     automatic: (u64, u32),
     count: u64,
     places: Vec<Line>,
+    order: [u8; MOST_LINES],
+    sets: [u64; SETS],
 }
 
 /// The text of a case file of the box (CASE-FILES).
@@ -50,38 +53,55 @@ fn obey(bench: &mut Bench, case: &Case) -> Option<String> {
                 bench.places[place] = line;
                 line.start = line.start.wrapping_add(step);
             }
+            bench.lay_out_index();
+            Some(String::new())
+        }
+        ("orde", &[place, number], None) => {
+            bench.order[place as usize % MOST_LINES] = number as u8;
+            Some(String::new())
+        }
+        ("sets", &[place, set], None) => {
+            bench.sets[place as usize % SETS] = set;
             Some(String::new())
         }
         ("at", &[port], Some(message)) => Some(bench.receive(1, port as u8, message)),
         ("repe", &[times, port], Some(message)) => Some(bench.receive(times, port as u8, message)),
-        ("lent", &[nodes, starts, ports, sizes, port], Some(message)) => {
-            let lengths = [nodes % 257, starts % 258, ports % 257, sizes % 257];
-            if lengths == [MOST_LINES as u64; 4] {
+        ("lent", &[nodes, starts, ports, sizes, order, sets, port], Some(message)) => {
+            if lent([nodes, starts, ports, sizes, order, sets]) == LENT_LENGTHS {
                 return Some(bench.receive(1, port as u8, message));
             }
-            Some(bench.told(&refused(refusal::BOUNDS), ", kept"))
+            Some(bench.told(&refused(refusal::BOUNDS), ", kept") + &bench.index_line())
         }
         ("why", &[port, asked], Some(message)) => {
-            let all = [MOST_LINES as u64; 4];
-            Some(bench.why(all, port as u8, asked as u8, message))
+            Some(bench.why(LENT_LENGTHS, port as u8, asked as u8, message))
         }
-        ("why", &[nodes, starts, ports, sizes, port, asked], Some(message)) => {
-            let lengths = [nodes % 257, starts % 258, ports % 257, sizes % 257];
+        ("why", &[nodes, starts, ports, sizes, order, sets, port, asked], Some(message)) => {
+            let lengths = lent([nodes, starts, ports, sizes, order, sets]);
             Some(bench.why(lengths, port as u8, asked as u8, message))
         }
         _ => None,
     }
 }
 
+/// How many places of each list are lent: a number past the most of a list is taken modulo one more than that (CASE-FILES, `lent`).
+fn lent(numbers: [u64; 6]) -> [usize; 6] {
+    let most = [256, 257, 256, 256, 256, 9];
+    std::array::from_fn(|list| (numbers[list] % (most[list] + 1)) as usize)
+}
+
 /// A state with no line in any place (CASE-FILES, `box`).
 fn laid_out(ports: u8, marks: u8, automatic: (u64, u32), count: u64) -> Bench {
-    Bench {
+    let mut bench = Bench {
         ports,
         marks,
         automatic,
         count,
         places: vec![NOTHING; MOST_LINES],
-    }
+        order: [0; MOST_LINES],
+        sets: [0; SETS],
+    };
+    bench.lay_out_index();
+    bench
 }
 
 /// An answer that is a refusal alone (01-scope, Refusal numbers).
@@ -93,6 +113,26 @@ fn refused(number: u8) -> Outcome {
 }
 
 impl Bench {
+    /// How many of the 256 places the count takes.
+    fn used(&self) -> usize {
+        self.count.min(MOST_LINES as u64) as usize
+    }
+
+    /// The index of the lines as they stand, and 0 from there on (CASE-FILES, `box` and `lines`; 02, W6).
+    fn lay_out_index(&mut self) {
+        let index = Index::of(&self.places[..self.used()]);
+        self.order = [0; MOST_LINES];
+        self.take_index(&index);
+    }
+
+    /// Takes over an index; the places past it stay.
+    fn take_index(&mut self, index: &Index) {
+        for (place, number) in index.order.iter().enumerate() {
+            self.order[place] = *number as u8;
+        }
+        self.sets = index.sets;
+    }
+
     /// The lines that are part of the state; past the places there is a line more than a table has (01-scope, Gateway).
     fn lines(&self) -> Vec<Line> {
         let mut lines = self.places.clone();
@@ -111,7 +151,7 @@ impl Bench {
 
     /// The message so many times, its last byte one more each time (CASE-FILES, `repeat`).
     fn receive(&mut self, times: u64, port: u8, message: &[u8]) -> String {
-        let before = self.clone();
+        let before = self.total_of_all_places();
         let mut message = message.to_vec();
         let mut outcome = refused(refusal::NONE);
         for _ in 0..times {
@@ -124,17 +164,16 @@ impl Bench {
                 *last = last.wrapping_add(1);
             }
         }
-        let kept = if *self == before {
+        let kept = if self.total_of_all_places() == before {
             ", kept"
         } else {
             ", CHANGED"
         };
-        self.told(&outcome, kept)
+        self.told(&outcome, kept) + &self.index_line()
     }
 
     /// Why a report goes to the asked port or not, on lists of which so many places are lent (CASE-FILES, `why`; 02, W1).
-    fn why(&self, lengths: [u64; 4], port: u8, asked: u8, message: &[u8]) -> String {
-        let lengths = lengths.map(|length| length as usize);
+    fn why(&self, lengths: [usize; 6], port: u8, asked: u8, message: &[u8]) -> String {
         let (port, asked) = (u32::from(port), u32::from(asked));
         match self.gateway().why_on_lists(lengths, port, asked, message) {
             Ok(Reason::Held { place, line }) => format!(
@@ -153,6 +192,10 @@ impl Bench {
             automatic: self.automatic,
             lines: self.lines(),
             open: (0..8).filter(|port| self.marks >> port & 1 == 1).collect(),
+            index: Index {
+                order: self.order[..self.used()].iter().map(|number| usize::from(*number)).collect(),
+                sets: self.sets,
+            },
         }
     }
 
@@ -162,6 +205,7 @@ impl Bench {
         self.marks = gateway.open.iter().map(|port| 1u8 << port).sum();
         self.count = gateway.lines.len() as u64;
         self.places[..gateway.lines.len()].copy_from_slice(&gateway.lines);
+        self.take_index(&gateway.index);
     }
 
     /// The answer and the state (CASE-FILES, what is printed).
@@ -205,145 +249,54 @@ impl Bench {
         text
     }
 
-    /// Each line's numbers, times the lines from it to the last (CASE-FILES, "total").
-    fn total(&self) -> u64 {
-        let lines = self.lines();
-        let counted = &lines[..lines.len().min(MOST_LINES)];
-        let mut total: u64 = 0;
-        for (place, line) in counted.iter().enumerate() {
-            let sum = (u128::from(line.node) + u128::from(line.start)) as u64;
-            let sum = sum.wrapping_add(u64::from(line.port) + u64::from(line.k));
-            total = total.wrapping_add(sum.wrapping_mul((counted.len() - place) as u64));
+    /// The index up to the count, of a long one the first four and the last four numbers and their total, and the sets (CASE-FILES).
+    fn index_line(&self) -> String {
+        let order = &self.order[..self.used()];
+        let mut text = "    order".to_string();
+        for (place, number) in order.iter().enumerate() {
+            if order.len() <= SHORT || place < SHORT / 2 || place + SHORT / 2 >= order.len() {
+                text.push_str(&format!(" {number:x}"));
+            }
         }
-        total
+        if order.len() > SHORT {
+            text.push_str(&format!(" total {:016x}", weighted(order.iter().copied())));
+        }
+        text.push_str("; sets");
+        for set in self.sets {
+            text.push_str(&format!(" {set:x}"));
+        }
+        text.push('\n');
+        text
     }
+
+    /// The total of the lines up to the count (CASE-FILES, "total").
+    fn total(&self) -> u64 {
+        weighted(self.places[..self.used()].iter().map(sum_of))
+    }
+
+    /// The total of everything that a refusal keeps (CASE-FILES, `kept`): of all 256 lines, and of order and sets.
+    fn total_of_all_places(&self) -> u64 {
+        let lines = weighted(self.places.iter().map(sum_of));
+        let index = weighted(self.order).wrapping_add(weighted(self.sets));
+        lines.wrapping_add(index)
+    }
+}
+
+/// A line's numbers added up, modulo 2^64.
+fn sum_of(line: &Line) -> u64 {
+    let sum = (u128::from(line.node) + u128::from(line.start)) as u64;
+    sum.wrapping_add(u64::from(line.port) + u64::from(line.k))
+}
+
+/// Each number times how many there are from it to the last, added up modulo 2^64 (CASE-FILES, "total").
+fn weighted<T: Into<u64>>(numbers: impl IntoIterator<Item = T>) -> u64 {
+    let numbers: Vec<u64> = numbers.into_iter().map(Into::into).collect();
+    let mut total: u64 = 0;
+    for (place, number) in numbers.iter().enumerate() {
+        total = total.wrapping_add(number.wrapping_mul((numbers.len() - place) as u64));
+    }
+    total
 }
 
 #[cfg(test)]
-mod tests {
-    use super::*;
-
-    fn text(file: &str) -> String {
-        String::from_utf8(gateway_cases_text(file.as_bytes())).unwrap()
-    }
-
-    /// 01-scope, Trial program, the first two messages: an announcement, then its report.
-    #[test]
-    fn announced_and_reported() {
-        let state = "; box 4 0 0100000000000000 10 1\n";
-        let line = "    0: 1 0a0000000001 0a00000000010001 0\n";
-        let announced = "at 1: 04c4 0a0000000001 0a00000000010001\n";
-        let reported = "at 0: 05b4 0a0000000009 0a00000000010001\n";
-        let file = format!("start 4 010000000000ffff\n{announced}{reported}");
-        let expected = format!("{announced}  1011{state}{line}{reported}  0100{state}{line}");
-        assert!(text(&file).ends_with(&expected));
-    }
-
-    /// 01-scope, Gateway: a full table opens the port; its lines and their order by the total.
-    #[test]
-    fn full_table() {
-        let file = "start 4 010000000000ffff\nrepeat ff 1: 04c4 0a0000000001 0a00000000010001\nat 2: 04c4 0a0000000002 0000000000000005\nat 3: 04c4 0a0000000002 0000000000000006\n";
-        let text = text(file);
-        let last = text.rsplit_once("at 3:").unwrap().1;
-        assert!(last.contains("  1110; box 4 8 0100000000000000 10 100; total "));
-        assert!(last.ends_with(
-            "    fe: 1 0a0000000001 0a000000000100ff 0\n    ff: 2 0a0000000002 0000000000000005 0\n"
-        ));
-        assert_eq!(last.lines().count(), 10);
-    }
-
-    /// The total is weighted from the end, and tells the order.
-    #[test]
-    fn totals() {
-        let mut bench = laid_out(2, 0, (0, 64), 2);
-        bench.places[0].start = 5;
-        bench.places[1].node = 7;
-        assert_eq!(bench.total(), 5 * 2 + 7);
-        bench.places.swap(0, 1);
-        assert_eq!(bench.total(), 7 * 2 + 5);
-    }
-
-    /// 01-scope, Refusal numbers, 7: over 256 lines, wrong lengths; a refused call keeps all; 8 at a start.
-    #[test]
-    fn refusals() {
-        let report = "05b4 0a0000000009 0a00000000010001";
-        let laid = "box 4 0 0 40 101\n";
-        assert!(text(&format!("{laid}at 0: {report}\n")).contains("  refused 7, kept; box 4"));
-        for lengths in [
-            "ff 100 100 100",
-            "100 101 100 100",
-            "100 100 1 100",
-            "100 100 100 0",
-        ] {
-            let file = format!("start 4 0\nlent {lengths} 0: {report}\n");
-            assert!(text(&file).contains("  refused 7, kept; box 4"));
-        }
-        assert!(
-            text("start 4 0\nlent 100 100 100 100 1: 0594 0a0000000009 01\n")
-                .contains("refused 1, kept")
-        );
-        assert!(text("start 9 0\n").ends_with("  refused 8; box 0 0 0000000000000000 40 0\n"));
-        assert!(text("start 9\n").ends_with("  line 1: cannot be read\n"));
-    }
-
-    /// 02, W2: a node's lines at two ports go by its restart at a third, the rest keep their order, and the open mark stays.
-    #[test]
-    fn a_board_that_moves() {
-        let laid = "box 4 8 0100000000000000 10 6\nlines 0 5 1 1 0a0000000007 5 0 1\nlines 1 5 2 2 0a0000000008 5 0 1\nlines 4 4 1 3 0a0000000007 9 0 0\n";
-        let restarted = "at 0: 0110 0a0000000007 0a0000000007\n";
-        let expected = "  0111; box 4 8 0100000000000000 10 3
-    0: 2 0a0000000008 0000000000000005 0
-    1: 2 0a0000000008 0000000000000006 0
-    2: 2 0a0000000008 0000000000000007 0
-";
-        assert!(text(&format!("{laid}{restarted}")).ends_with(expected));
-    }
-
-    /// 02, W4: an event inside a block is not stored, and a block replaces what it holds, wherever that stands; the given table has a nested line.
-    #[test]
-    fn covered_and_replaced() {
-        let laid = "box 4 0 0100000000000000 10 4\nlines 0 0 1 1 0a0000000007 4 0 0\nlines 1 1 1 2 0a0000000007 4 0 0\nlines 2 2 1 1 0a0000000007 4 1 0\nlines 3 3 1 1 0a0000000008 4 0 0\n";
-        let covered = "at 1: 04c5 0a0000000007 0000000000000005\n";
-        let replacing = "at 1: 04a4 0a0000000007 0000000000000007\n";
-        let expected = "  1011; box 4 0 0100000000000000 10 3
-    0: 2 0a0000000007 0000000000000004 0
-    1: 1 0a0000000008 0000000000000004 0
-    2: 1 0a0000000007 0000000000000000 3
-";
-        let text = text(&format!("{laid}{covered}{replacing}"));
-        assert!(text.contains("  1011; box 4 0 0100000000000000 10 4\n    0: 1 "));
-        assert!(text.ends_with(expected));
-    }
-
-    /// 02, W1: each reason as it is printed, the line with its place, node and block, a refusal alone; the state stays.
-    #[test]
-    fn reasons() {
-        let laid = "box 4 8 0100000000000000 10 b\nlines a a 1 2 0a0000000007 0a00000000010000 10 0\nlines 0 9 1 1 0a0000000001 5 0 0\n";
-        let report = "05b4 0a0000000009 0a00000000010001";
-        for (asked, expected) in [
-            (format!("why 0 0: {report}"), "reason 1"),
-            (
-                "why 0 2: 05b4 0a0000000009 0100000000000000".to_string(),
-                "reason 2",
-            ),
-            (format!("why 0 3: {report}"), "reason 3"),
-            (
-                format!("why 0 2: {report}"),
-                "reason 4; line a 0a0000000007 0a00000000010000 10",
-            ),
-            (format!("why 0 1: {report}"), "reason 5"),
-            (format!("why 100 100 100 100 0 1: {report}"), "reason 5"),
-            (format!("why 100 101 100 100 0 1: {report}"), "refused 7"),
-            (format!("why ff 100 100 100 0 4: {report}"), "refused 7"),
-            (format!("why 0 4: {report}"), "refused 8"),
-            (
-                "why 0 1: 04c4 0a0000000009 0a00000000010001".to_string(),
-                "refused 15",
-            ),
-            ("why 0: 05".to_string(), "line 4: cannot be read"),
-        ] {
-            let file = format!("{laid}{asked}\n");
-            assert_eq!(text(&file), format!("{file}  {expected}\n"));
-        }
-    }
-}
+mod tests;

@@ -14,6 +14,7 @@ pub mod explain;
 pub mod frame_file;
 pub mod gateway;
 pub mod gateway_cases;
+pub mod index;
 pub mod joining;
 pub mod judging;
 pub mod lent_board;

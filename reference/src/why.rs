@@ -1,6 +1,6 @@
 //! Why a report is sent to a port or held back from it (02, W1).
 
-use crate::gateway::{holds, Gateway, Line, MOST_LINES};
+use crate::gateway::{holds, Gateway, Line, LENT_LENGTHS};
 use crate::message;
 use crate::refusal;
 
@@ -53,15 +53,15 @@ impl Gateway {
         Ok(self.reason(arrival, asked, event))
     }
 
-    /// The same where the four lists of the table are lent: 7 before all else for one that is not 256 long (01-scope, Refusal numbers, 7).
+    /// The same where the lists of the table and of its index are lent: 7 before all else for one of another length (01-scope, Refusal numbers, 7; 02, W6).
     pub fn why_on_lists(
         &self,
-        lengths: [usize; 4],
+        lengths: [usize; 6],
         arrival: u32,
         asked: u32,
         bytes: &[u8],
     ) -> Result<Reason, u8> {
-        if lengths != [MOST_LINES; 4] {
+        if lengths != LENT_LENGTHS {
             return Err(refusal::BOUNDS);
         }
         self.why(arrival, asked, bytes)
@@ -126,7 +126,7 @@ mod tests {
     /// Four ports, the house block, these lines and open ports.
     fn four(lines: &[Line], open: &[u32]) -> Gateway {
         let (mut gateway, _) = Gateway::start(4, HOUSE_NUMBER);
-        gateway.lines = lines.to_vec();
+        gateway.set_lines(lines.to_vec());
         gateway.open = open.iter().copied().collect();
         gateway
     }
@@ -294,11 +294,12 @@ mod tests {
     fn lengths_of_lists() {
         let gateway = four(&[], &[]);
         let asked = |lengths, asked, bytes: &[u8]| gateway.why_on_lists(lengths, 0, asked, bytes);
-        assert_eq!(asked([256; 4], 1, &report(EVENT)), Ok(Reason::Nothing));
-        assert_eq!(asked([256; 4], 4, &[]), Err(8));
-        for list in 0..4 {
-            for length in [0, 255, 257] {
-                let mut lengths = [256; 4];
+        let right = [256, 256, 256, 256, 256, 9];
+        assert_eq!(asked(right, 1, &report(EVENT)), Ok(Reason::Nothing));
+        assert_eq!(asked(right, 4, &[]), Err(8));
+        for list in 0..6 {
+            for length in [0, 8, 10, 255, 257] {
+                let mut lengths = right;
                 lengths[list] = length;
                 assert_eq!(asked(lengths, 1, &report(EVENT)), Err(7));
                 assert_eq!(asked(lengths, 4, &[]), Err(7));

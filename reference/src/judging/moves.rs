@@ -195,14 +195,13 @@ mod tests {
     /// A box with so many lines of one event, eight to a node, at all of its ports in turn.
     fn with_lines(ports: u32, count: usize) -> Gateway {
         let (mut gateway, _) = Gateway::start(ports, Area::house().number);
-        gateway.lines = (0..count)
-            .map(|place| Line {
-                port: place as u32 % ports,
-                node: 0x0A00_0000_0001 + place as u64 / 8,
-                start: place as u64,
-                k: 0,
-            })
-            .collect();
+        let line = |place| Line {
+            port: place as u32 % ports,
+            node: 0x0A00_0000_0001 + place as u64 / 8,
+            start: place as u64,
+            k: 0,
+        };
+        gateway.set_lines((0..count).map(line).collect());
         gateway
     }
 

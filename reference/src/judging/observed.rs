@@ -138,7 +138,7 @@ fn saw_reason(gateway: &Gateway, arrival: &Arrival, reason: Reason, column: &mut
         column.saw(Row::HeldInTheLastPlace);
     }
     let mut rest = gateway.clone();
-    rest.lines.drain(..=place);
+    rest.set_lines(gateway.lines[place + 1..].to_vec());
     let again = rest.why(arrival.port.into(), line.port, &arrival.bytes);
     if again != Ok(Reason::Nothing) {
         column.saw(Row::HeldOnceMore);
@@ -241,7 +241,7 @@ mod tests {
             start,
             k: 0,
         };
-        gateway.lines = (0..).zip(lines).map(line).collect();
+        gateway.set_lines((0..).zip(lines).map(line).collect());
         gateway.open = open.iter().copied().collect();
         let restart = Arrival {
             port: 2,

@@ -163,7 +163,7 @@ mod tests {
             start: *start,
             k: *k,
         };
-        gateway.lines = lines.iter().map(line).collect();
+        gateway.set_lines(lines.iter().map(line).collect());
         let mut column = Column::default();
         saw_given(&gateway.lines, &mut column);
         saw_announced(&gateway, &line(&(1, 7, block.0, block.1)), &mut column);

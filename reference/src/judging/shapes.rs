@@ -119,7 +119,7 @@ mod tests {
     fn full_tables() {
         let (mut gateway, _) = Gateway::start(2, 0);
         for (count, expected) in [(0, [0, 0]), (255, [1, 0]), (256, [1, 1])] {
-            gateway.lines = lines(&vec![7; count]);
+            gateway.set_lines(lines(&vec![7; count]));
             let mut column = Column::default();
             saw_restart(&gateway, 7, &mut column);
             let rows = [Row::Restarted, Row::RestartedInFull].map(|row| row(Shape::EveryLine));

@@ -37,10 +37,9 @@ pub fn line(port: u32, node: u64, (start, k): (u64, u32)) -> Line {
 
 /// A box of four ports with these lines, which need not come from a start.
 pub fn given(lines: Vec<Line>) -> Gateway {
-    Gateway {
-        lines,
-        ..gateway(4)
-    }
+    let mut four = gateway(4);
+    four.set_lines(lines);
+    four
 }
 
 /// The events that a report reaches port 1 with, of the first 20.

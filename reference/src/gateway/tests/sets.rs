@@ -22,11 +22,12 @@ fn by_sets_of_events() {
     let mut times = [0; 4];
     for _ in 0..4_000 {
         let count = [0, 1, 3, 6, 255, 256][dice.roll(6) as usize];
-        let mut four = given((0..count).map(|_| any_line(&mut dice)).collect());
+        let mut lines: Vec<Line> = (0..count).map(|_| any_line(&mut dice)).collect();
         if count > 200 && dice.roll(2) == 0 {
             // Only a few are left of the port and node that announces.
-            four.lines.iter_mut().skip(3).for_each(|line| line.node = 9);
+            lines.iter_mut().skip(3).for_each(|line| line.node = 9);
         }
+        let mut four = given(lines);
         let new = any_line(&mut dice);
         let before = four.clone();
         announced(&mut four, new.port, new.node, (new.start, new.k));
