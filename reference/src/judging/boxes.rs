@@ -2,13 +2,14 @@
 //! between the messages.
 
 use std::collections::BTreeSet;
-use std::fmt::{self, Debug, Formatter};
 
-use crate::gateway::{self, Line};
+use crate::gateway;
 use crate::lent_box::{self, Block, Gateway, Head, LentAnswer, Lists, Reason, PLACES};
 
+use super::damages;
 use super::functions::Function;
 use super::histories::{any_history, history_in, Arrival};
+use super::indexed;
 use super::laid_lines::any_numbers;
 use super::laid_out::Layout;
 use super::lengths;
@@ -18,6 +19,7 @@ use super::questions::{self, Blocks, Question};
 use super::random::Dice;
 use super::restarts::restarts_of;
 use super::rows::Row;
+use super::tables::Table;
 use super::ways::BOX_WAY_COUNT;
 use super::witness::Witness;
 use super::world::{Area, World};
@@ -39,29 +41,7 @@ struct Answer {
     refusal: u8,
     sent: u8,
     head: Head,
-    lines: Lines,
-}
-
-/// The lines of a table, shown one by one only where an answer is shown in full.
-#[derive(PartialEq)]
-pub struct Lines(Vec<Line>);
-
-impl Debug for Lines {
-    fn fmt(&self, out: &mut Formatter) -> fmt::Result {
-        if !out.alternate() {
-            return write!(out, "..");
-        }
-        for line in &self.0 {
-            let Line {
-                port,
-                node,
-                start,
-                k,
-            } = line;
-            write!(out, "\n{port} {node:X} {start:016X} {k}")?;
-        }
-        Ok(())
-    }
+    table: Table,
 }
 
 /// The box on both sides, on the proved side once for each of the two calls.
@@ -164,10 +144,12 @@ fn started(witness: &mut Witness, calls: &impl Calls, ports: u8, number: u64) ->
     let ours = proved_answer(&answer.gateway, answer.refusal, answer.sent);
     let theirs = boxes.reference_answer(refusal, 0);
     let asked = || format!("start with {ports:02X} ports, automatic {number:016X}");
-    witness.compare(asked, &ours, &theirs).then_some(boxes)
+    let same = witness.compare(asked, &ours, &theirs);
+    let asked = || "nothing; every place of a started index is 0".to_string();
+    (witness.compare(asked, &answer.gateway.order, &[0; PLACES]) && same).then_some(boxes)
 }
 
-/// Puts messages and questions to both sides, up to the first difference, and last one message with a list of another length.
+/// Puts messages and questions to both sides, up to the first difference, and last one message with a list of another length and one with a damaged index.
 pub fn follow(
     dice: &mut Dice,
     witness: &mut Witness,
@@ -194,6 +176,7 @@ pub fn follow(
     }
     let place = dice.between(0, arrivals.len() - 1);
     lengths::judge(dice, witness, calls, &boxes.in_place, &arrivals[place]);
+    boxes.judge_damaged(dice, witness, calls, &arrivals[place]);
 }
 
 impl Boxes {
@@ -208,15 +191,41 @@ impl Boxes {
         }
     }
 
-    /// Any numbers in two places past the lines, which are no part of the state.
+    /// Any numbers in two places past the lines and past the index, which are no part of the state.
     fn litter(&mut self, dice: &mut Dice) {
         let count = self.by_value.head.count;
-        if count < PLACES {
-            let place = dice.between(count, PLACES - 1);
-            for (place, line) in [(count, any_numbers(dice)), (place, any_numbers(dice))] {
-                self.by_value.set_line(place, &line);
-                self.in_place.set_line(place, &line);
+        if count >= PLACES {
+            return;
+        }
+        for place in [count, dice.between(count, PLACES - 1)] {
+            let (line, number) = (any_numbers(dice), dice.number() as u8);
+            for gateway in [&mut self.by_value, &mut self.in_place] {
+                gateway.set_line(place, &line);
+                gateway.order[place] = number;
             }
+        }
+    }
+
+    /// Damages the index of a state in bounds (02, W6), and puts a question and a message to it.
+    fn judge_damaged(
+        mut self,
+        dice: &mut Dice,
+        witness: &mut Witness,
+        calls: &impl Calls,
+        arrival: &Arrival,
+    ) {
+        if !self.reference.in_bounds() {
+            return;
+        }
+        let (damage, index) = damages::any(dice, &self.reference);
+        witness.column.saw(Row::Damaged(damage));
+        witness.show(|| damage.label().to_string());
+        for gateway in [&mut self.by_value, &mut self.in_place] {
+            gateway.set_index(&index);
+        }
+        self.reference.index = index;
+        if self.ask(dice, witness, calls, arrival) {
+            self.step(witness, calls, arrival);
         }
     }
 
@@ -237,7 +246,7 @@ impl Boxes {
     /// A question, at times of a line that stands past the count, which no answer may depend on.
     fn any_question(&self, dice: &mut Dice, arrival: &Arrival) -> Question {
         let lines = match dice.chance(8) {
-            true => all_places(&self.in_place).0,
+            true => Table::of_all_places(&self.in_place).lines,
             false => self.in_place.lines(),
         };
         let Head {
@@ -253,13 +262,14 @@ impl Boxes {
     /// Puts one message to both sides; whether they agree.
     fn step(&mut self, witness: &mut Witness, calls: &impl Calls, arrival: &Arrival) -> bool {
         let outcome = observed::receive(&mut self.reference, arrival, witness.column);
+        indexed::saw_litter(&self.in_place, outcome.refusal, witness.column);
         let expected = self.reference_answer(outcome.refusal, bits(&outcome.sent));
         let by_value = self.step_by_value(witness, calls, arrival, &expected);
         let in_place = self.step_in_place(witness, calls, arrival, &expected);
         by_value && in_place
     }
 
-    /// Puts one message to the call by value; whether its answer is the expected one.
+    /// Puts one message to the call by value; whether its answer is the expected one, and a refusal gives every place of the lists back as it was.
     fn step_by_value(
         &mut self,
         witness: &mut Witness,
@@ -267,10 +277,12 @@ impl Boxes {
         arrival: &Arrival,
         expected: &Answer,
     ) -> bool {
+        let before = self.by_value;
         let answer = calls.receive(&self.by_value, arrival.port, &arrival.bytes);
         self.by_value = answer.gateway;
         let ours = proved_answer(&self.by_value, answer.refusal, answer.sent);
-        witness.compare(|| arrival.put("by value"), &ours, expected)
+        let same = witness.compare(|| arrival.put("by value"), &ours, expected);
+        same & kept_if_refused(witness, expected, &before, &self.by_value)
     }
 
     /// Puts one message to the call in place; whether its answer is the expected one, and a refusal leaves every place of the lists as it was.
@@ -281,23 +293,18 @@ impl Boxes {
         arrival: &Arrival,
         expected: &Answer,
     ) -> bool {
-        let before = all_places(&self.in_place);
+        let before = self.in_place;
         let (head, lists) = (self.in_place.head, self.in_place.lists());
         let answer = calls.receive_lists(head, lists, arrival.port, &arrival.bytes);
         (self.in_place.head.marks, self.in_place.head.count) = (answer.marks, answer.count);
         let ours = proved_answer(&self.in_place, answer.refusal, answer.sent);
         let same = witness.compare(|| arrival.put("in place"), &ours, expected);
-        if expected.refusal == 0 {
-            return same;
-        }
-        let asked = || "nothing; every place of the lists after the refusal".to_string();
-        witness.compare(asked, &all_places(&self.in_place), &before) && same
+        same & kept_if_refused(witness, expected, &before, &self.in_place)
     }
 
     /// The reference's answer and state.
     fn reference_answer(&self, refusal: u8, sent: u8) -> Answer {
         let (start, k) = self.reference.automatic;
-        let lines = self.reference.lines.iter().take(PLACES);
         Answer {
             refusal,
             sent,
@@ -307,7 +314,7 @@ impl Boxes {
                 automatic: Block { start, k: k as u8 },
                 count: self.reference.lines.len() + self.told,
             },
-            lines: Lines(lines.copied().collect()),
+            table: Table::of_reference(&self.reference),
         }
     }
 }
@@ -318,13 +325,20 @@ fn proved_answer(gateway: &Gateway, refusal: u8, sent: u8) -> Answer {
         refusal,
         sent,
         head: gateway.head,
-        lines: Lines(gateway.lines()),
+        table: Table::of_proved(gateway),
     }
 }
 
-/// What stands in the lists, past the count too.
-pub fn all_places(gateway: &Gateway) -> Lines {
-    Lines((0..PLACES).map(|place| gateway.line(place)).collect())
+/// Whether every place of the lists, past the count too, is as it was where the message is to be refused.
+fn kept_if_refused(
+    witness: &mut Witness,
+    expected: &Answer,
+    before: &Gateway,
+    after: &Gateway,
+) -> bool {
+    let asked = || "nothing; every place of the lists after the refusal".to_string();
+    let (before, after) = (Table::of_all_places(before), Table::of_all_places(after));
+    expected.refusal == 0 || witness.compare(asked, &after, &before)
 }
 
 /// A set of ports as bits.

@@ -15,7 +15,7 @@ pub struct Amounts {
     pub files: u64,
     /// 0 for a judge that has no messages, ranges and pairs of blocks.
     pub small: u64,
-    /// How many frame files, inputs of the CAN side's calls and histories with nested ranges, for each other file.
+    /// How many frame files, inputs of the CAN side's calls and histories of a box, for each other file.
     pub times: u64,
 }
 
@@ -24,10 +24,10 @@ impl Amounts {
     pub fn of(self, sort: Sort) -> u64 {
         match sort {
             Sort::Range | Sort::Message | Sort::Pair => self.small,
-            Sort::Box | Sort::Trial | Sort::Board | Sort::Calls | Sort::Why | Sort::Explain => {
-                self.files
+            Sort::Trial | Sort::Board | Sort::Calls | Sort::Why | Sort::Explain => self.files,
+            Sort::Box | Sort::Frame | Sort::Can | Sort::Nest => {
+                self.files.saturating_mul(self.times)
             }
-            Sort::Frame | Sort::Can | Sort::Nest => self.files.saturating_mul(self.times),
         }
     }
 }
@@ -164,7 +164,8 @@ mod tests {
         };
         assert_eq!((all.seed, all.amounts), (7, asked));
         let counts = [Sort::Box, Sort::Frame, Sort::Can, Sort::Nest].map(|sort| asked.of(sort));
-        assert_eq!(counts, [3, 30, 30, 30]);
+        assert_eq!(counts, [30; 4]);
+        assert_eq!(asked.of(Sort::Trial), 3);
         let small = [Sort::Message, Sort::Range, Sort::Pair].map(|sort| asked.of(sort));
         assert_eq!(small, [4; 3]);
         assert_eq!(all.only, Some((Sort::Box, 9)));

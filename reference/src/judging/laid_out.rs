@@ -3,6 +3,7 @@
 use std::collections::BTreeSet;
 
 use crate::gateway::{self, Line};
+use crate::index::Index;
 use crate::lent_box::{Block, Gateway, Head, PLACES};
 
 use super::histories::Arrival;
@@ -133,20 +134,21 @@ impl Layout {
         })
     }
 
-    /// The state for the proved side, any numbers standing in the places past the lines.
+    /// The state for the proved side, any numbers standing in the places past the lines and past their index.
     pub fn for_proved(&self, dice: &mut Dice) -> Gateway {
-        let mut gateway = Gateway {
-            head: self.head(),
-            nodes: [0; PLACES],
-            starts: [0; PLACES],
-            ports: [0; PLACES],
-            sizes: [0; PLACES],
-        };
+        let mut gateway = Gateway::bare(self.head());
         for place in 0..PLACES {
             let past = any_numbers(dice);
             gateway.set_line(place, self.lines.get(place).unwrap_or(&past));
+            gateway.order[place] = dice.number() as u8;
         }
+        gateway.set_index(&self.index());
         gateway
+    }
+
+    /// The index of the lines that the table has places for.
+    fn index(&self) -> Index {
+        Index::of(&self.lines[..self.lines.len().min(PLACES)])
     }
 
     /// The state but for its lines, for the proved side.
@@ -167,6 +169,7 @@ impl Layout {
             automatic: self.automatic,
             lines: self.lines.clone(),
             open: ports_in(self.marks),
+            index: self.index(),
         }
     }
 }

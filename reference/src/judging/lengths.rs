@@ -2,6 +2,8 @@
 
 use std::fmt::{self, Debug, Formatter};
 
+use crate::gateway::LENT_LENGTHS;
+use crate::index::SETS;
 use crate::lent_box::{Gateway, LentAnswer, Lists, PLACES};
 use crate::refusal;
 
@@ -16,6 +18,11 @@ use super::witness::Witness;
 
 const TOO_SHORT: [usize; 5] = [0, 1, 128, 254, 255];
 const TOO_LONG: [usize; 4] = [257, 258, 511, 512];
+const TOO_FEW_SETS: [usize; 3] = [0, 1, 8];
+const TOO_MANY_SETS: [usize; 3] = [10, 11, 18];
+/// The places in the lists of lengths of the order and the sets of an index.
+const ORDER: usize = 4;
+const OF_SETS: usize = 5;
 /// Lists three times as long as they should be have places past every length, which no call may touch.
 const TIMES: usize = 3;
 
@@ -26,6 +33,8 @@ struct Owned {
     starts: Vec<u64>,
     ports: Vec<u8>,
     sizes: Vec<u8>,
+    order: Vec<u8>,
+    sets: Vec<u64>,
 }
 
 /// What the call answers, and the lists after it.
@@ -35,7 +44,7 @@ struct Answer<T> {
     lists: Owned,
 }
 
-/// Puts a message, and a question beside it, to the calls on lent lists with one list, or all four, of another length.
+/// Puts a message, and a question beside it, to the calls on lent lists with one list, or all six, of another length.
 pub fn judge(
     dice: &mut Dice,
     witness: &mut Witness,
@@ -59,7 +68,7 @@ fn judge_receive(
     witness: &mut Witness,
     calls: &impl Calls,
     gateway: &Gateway,
-    lengths: [usize; 4],
+    lengths: [usize; 6],
     arrival: &Arrival,
 ) {
     let head = gateway.head;
@@ -87,7 +96,7 @@ fn judge_why(
     witness: &mut Witness,
     calls: &impl Calls,
     gateway: &Gateway,
-    lengths: [usize; 4],
+    lengths: [usize; 6],
     question: &Question,
 ) {
     let Question { arrival, asked } = question;
@@ -103,16 +112,25 @@ fn judge_why(
     witness.compare(asked, &ours, &theirs);
 }
 
-/// The lengths of nodes, starts, ports and sizes, by the place in the table of counts.
-fn lengths_of(dice: &mut Dice, way: usize) -> [usize; 4] {
-    let length = match way % 2 {
-        0 => dice.pick(&TOO_SHORT),
-        _ => dice.pick(&TOO_LONG),
+/// The lengths of the lists, by the place in the table of counts.
+fn lengths_of(dice: &mut Dice, way: usize) -> [usize; 6] {
+    let (length, sets) = match way % 2 {
+        0 => (dice.pick(&TOO_SHORT), dice.pick(&TOO_FEW_SETS)),
+        _ => (dice.pick(&TOO_LONG), dice.pick(&TOO_MANY_SETS)),
     };
-    let mut lengths = [PLACES; 4];
-    match lengths.get_mut(way / 2) {
-        Some(one) => *one = length,
-        None => lengths = [length; 4],
+    let mut lengths = LENT_LENGTHS;
+    match way {
+        0..8 => lengths[way / 2] = length,
+        8 | 9 => {
+            lengths = [length; 6];
+            lengths[OF_SETS] = sets;
+        }
+        10 => lengths[ORDER] = 0,
+        11 => lengths[ORDER] = PLACES - 1,
+        12 => lengths[ORDER] = PLACES + 1,
+        13 => lengths[OF_SETS] = 0,
+        14 => lengths[OF_SETS] = SETS - 1,
+        _ => lengths[OF_SETS] = SETS + 1,
     }
     lengths
 }
@@ -124,17 +142,21 @@ impl Owned {
             starts: gateway.starts.repeat(TIMES),
             ports: gateway.ports.repeat(TIMES),
             sizes: gateway.sizes.repeat(TIMES),
+            order: gateway.order.repeat(TIMES),
+            sets: gateway.sets.repeat(TIMES),
         }
     }
 
     /// Lends so much of the lists for one call.
-    fn lend<T>(mut self, lengths: [usize; 4], call: impl FnOnce(Lists) -> T) -> Answer<T> {
-        let [nodes, starts, ports, sizes] = lengths;
+    fn lend<T>(mut self, lengths: [usize; 6], call: impl FnOnce(Lists) -> T) -> Answer<T> {
+        let [nodes, starts, ports, sizes, order, sets] = lengths;
         let answer = call(Lists {
             nodes: &mut self.nodes[..nodes],
             starts: &mut self.starts[..starts],
             ports: &mut self.ports[..ports],
             sizes: &mut self.sizes[..sizes],
+            order: &mut self.order[..order],
+            sets: &mut self.sets[..sets],
         });
         Answer {
             answer,
@@ -152,8 +174,9 @@ impl Debug for Owned {
         for place in 0..TIMES * PLACES {
             let (port, node) = (self.ports[place], self.nodes[place]);
             let (start, k) = (self.starts[place], self.sizes[place]);
-            write!(out, "\nplace {place}: {port} {node:X} {start:016X} {k}")?;
+            let number = self.order[place];
+            write!(out, "\nplace {place}: {port} {node:X} {start:016X} {k}; order {number:X}")?;
         }
-        Ok(())
+        write!(out, "\nsets {:X?}", self.sets)
     }
 }

@@ -24,10 +24,12 @@ pub mod children;
 pub mod command;
 pub mod counts;
 pub mod covers;
+pub mod damages;
 pub mod frame_files;
 pub mod frames;
 pub mod functions;
 pub mod histories;
+pub mod indexed;
 pub mod laid_boards;
 pub mod laid_lines;
 pub mod laid_out;
@@ -68,6 +70,8 @@ mod stand_in_covers;
 #[cfg(test)]
 mod stand_in_files;
 #[cfg(test)]
+mod stand_in_index;
+#[cfg(test)]
 mod stand_in_joins;
 #[cfg(test)]
 mod stand_in_pairs;
@@ -81,6 +85,7 @@ mod stand_in_splits;
 mod stand_in_survivors;
 #[cfg(test)]
 mod stand_in_why;
+pub mod tables;
 pub mod texts;
 pub mod trial_files;
 #[cfg(feature = "proved")]

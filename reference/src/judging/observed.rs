@@ -12,6 +12,7 @@ use crate::why::Reason;
 use super::counts::Column;
 use super::functions::Function;
 use super::histories::Arrival;
+use super::indexed;
 use super::moves::Move;
 use super::observed_covers;
 use super::rows::Row;
@@ -58,10 +59,16 @@ fn saw_accepted(
         };
         if after.lines != before.lines {
             column.saw(Row::of_block(k));
+            indexed::saw_added(before, after, column);
+            indexed::saw_removed(before, &after.index, |other| line.is_over(other), column);
         }
         observed_covers::saw_announced(before, &line, column);
+    } else if let Some(event) = message::reported_event(message) {
+        indexed::saw_report(before, port, event, column);
     } else if message::is_initialization_complete(message) {
-        shapes::saw_restart(before, message.source, column);
+        let source = message.source;
+        shapes::saw_restart(before, source, column);
+        indexed::saw_removed(before, &after.index, |line| line.node == source, column);
         if after.lines.len() < before.lines.len() {
             saw_removed(before, after, port, column);
         }

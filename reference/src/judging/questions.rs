@@ -4,11 +4,12 @@ use crate::gateway::{self, Line};
 use crate::lent_box::{Block, Gateway, Reason};
 use crate::why;
 
-use super::boxes::{all_places, Calls, Lines};
+use super::boxes::Calls;
 use super::histories::{event_in, Arrival};
 use super::observed;
 use super::parts::{bytes_damaged_at_times, Parts};
 use super::random::Dice;
+use super::tables::Table;
 use super::witness::{Hex, Witness};
 use super::world::{good_node, low_bits};
 
@@ -27,7 +28,7 @@ pub struct Question {
 #[derive(PartialEq, Debug)]
 struct Answer {
     reason: Reason,
-    lists: Lines,
+    lists: Table,
 }
 
 impl Question {
@@ -147,14 +148,14 @@ pub fn ask(
     let (arrival, asked) = (&question.arrival, question.asked);
     let expected = Answer {
         reason: reason_of(observed::why(reference, arrival, asked, witness.column)),
-        lists: all_places(gateway),
+        lists: Table::of_all_places(gateway),
     };
     let mut lent = *gateway;
     let head = gateway.head;
     let reason = calls.why(head, lent.lists(), arrival.port, asked, &arrival.bytes);
     let ours = Answer {
         reason,
-        lists: all_places(&lent),
+        lists: Table::of_all_places(&lent),
     };
     witness.compare(|| question.put("on all places"), &ours, &expected)
 }

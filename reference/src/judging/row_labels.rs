@@ -48,6 +48,8 @@ impl Row {
             Row::Compared(number) => COMPARED[usize::from(number) - 1],
             Row::Pair(pair) => pair.label(),
             Row::Cover(cover) => cover.label(),
+            Row::Indexed(indexed) => indexed.label(),
+            Row::Damaged(damage) => damage.label(),
             Row::Inputs => "inputs",
             Row::Comparisons => "comparisons",
             Row::TooManyReplies => "refused 13 (never: 64 replies are 1,024 bytes)",

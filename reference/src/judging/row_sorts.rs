@@ -23,6 +23,7 @@ impl Row {
             Row::Answer(..) | Row::TooManyReplies => &[],
             Row::Compared(_) | Row::Pair(_) => &[Sort::Pair],
             Row::Cover(cover) if cover.is_of_given_tables() => &[Sort::Box, Sort::Nest],
+            Row::Indexed(indexed) if indexed.is_of_given_tables() => &[Sort::Box, Sort::Nest],
             Row::SentToNone
             | Row::SentToSome
             | Row::SentToAllOthers
@@ -34,7 +35,8 @@ impl Row {
             | Row::Moved(_)
             | Row::Restarted(_)
             | Row::RestartedInFull(_)
-            | Row::Cover(_) => &BOXES,
+            | Row::Cover(_)
+            | Row::Indexed(_) => &BOXES,
             Row::Reason(_)
             | Row::HeldByOneEvent
             | Row::HeldByRange
@@ -71,7 +73,7 @@ impl Row {
             Row::TextInParts => &[Sort::Trial, Sort::Board, Sort::Frame],
             Row::WrittenBack => &[Sort::Message],
             Row::BoxWay(_) => &[Sort::Box],
-            Row::ListLength(_) => &[Sort::Box, Sort::Nest],
+            Row::ListLength(_) | Row::Damaged(_) => &[Sort::Box, Sort::Nest],
             Row::OnSlotRecords | Row::OnLists | Row::BoardWay(_) => &[Sort::Calls],
             Row::Leg(Leg::SplitThenJoined) => &[Sort::Can],
             Row::CanWay(way) if way >= FIRST_OF_CALLS => &[Sort::Can],

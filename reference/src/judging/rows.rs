@@ -1,7 +1,9 @@
 //! The rows of the table: what inputs are to reach, and how often.
 
 use super::covers::Cover;
+use super::damages::Damage;
 use super::functions::Function;
+use super::indexed::Indexed;
 use super::legs::{Leg, CAN_WAY_COUNT, SPLIT_LENGTHS};
 use super::moves::Move;
 use super::pairs::Pair;
@@ -32,7 +34,7 @@ pub const WRITTEN: [u16; 8] = [
     0x0100, 0x05B4, 0x0544, 0x0545, 0x0547, 0x04C4, 0x04C5, 0x04C7,
 ];
 
-/// How many times the default inputs have to reach a row of a CAN leg, one of what is covered, or one of what goes at a restart.
+/// How many times the default inputs have to reach a row of a CAN leg, of what is covered, of what goes at a restart, of an index or of a list's length.
 const LEAST_OF_MANY: u64 = 10;
 
 /// A row: something that can be seen of an input.
@@ -97,6 +99,10 @@ pub enum Row {
     Pair(Pair),
     /// What an announcement was beside, or what a given table has.
     Cover(Cover),
+    /// What was seen of an index.
+    Indexed(Indexed),
+    /// An index that disagreed with its table, and how.
+    Damaged(Damage),
 }
 
 impl Row {
@@ -115,6 +121,8 @@ impl Row {
         rows.extend(Shape::ALL.map(Row::RestartedInFull));
         rows.extend([Row::BlocksNested]);
         rows.extend(Cover::ALL.map(Row::Cover));
+        rows.extend(Indexed::ALL.map(Row::Indexed));
+        rows.extend(Damage::ALL.map(Row::Damaged));
         rows.extend((1..=REASONS.len() as u8).map(Row::Reason));
         rows.extend([Row::HeldByOneEvent, Row::HeldByRange]);
         rows.extend([Row::HeldInTheLastPlace, Row::HeldOnceMore]);
@@ -177,6 +185,9 @@ impl Row {
             | Row::Compared(_)
             | Row::Pair(_)
             | Row::Cover(_)
+            | Row::Indexed(_)
+            | Row::Damaged(_)
+            | Row::ListLength(_)
             | Row::Restarted(_)
             | Row::RestartedInFull(_) => LEAST_OF_MANY,
             _ => 1,

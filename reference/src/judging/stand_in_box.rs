@@ -1,6 +1,6 @@
-//! Stands in for the archive's box in tests of the judge: the reference itself, with a slip in its answer why, at a restart or at an announcement, or without.
+//! Stands in for the archive's box in tests of the judge: the reference itself, with a slip in its answer why, at a restart, at an announcement or in its index, or without.
 
-use crate::gateway;
+use crate::gateway::{self, LENT_LENGTHS};
 use crate::lent_box::{Answer, Block, Gateway, Head, LentAnswer, Lists, Reason, PLACES};
 use crate::refusal;
 
@@ -15,6 +15,7 @@ use super::reached;
 use super::rows::Row;
 use super::sort::Sort;
 use super::stand_in_covers::{self as covers, Announcement};
+use super::stand_in_index::{self as indexes, Accepted};
 use super::stand_in_restarts::{self as restarts, Restart};
 use super::stand_in_why::{self as whys, Asked};
 use super::witness::Witness;
@@ -24,20 +25,25 @@ use super::witness::Witness;
 pub struct Slips {
     pub restart: restarts::Slip,
     pub announcement: covers::Slip,
+    pub index: indexes::Slip,
 }
 
 /// None.
 pub const NO_SLIPS: Slips = Slips {
     restart: restarts::none,
     announcement: covers::none,
+    index: indexes::NONE,
 };
 
-/// A stand-in with slips in each call, and whether it writes into what it only has to read.
+/// A stand-in with slips in each call.
 pub struct StandIn {
-    by_value: Slips,
-    in_place: Slips,
-    why: whys::Slip,
-    writes: bool,
+    pub by_value: Slips,
+    pub in_place: Slips,
+    pub why: whys::Slip,
+    /// What it leaves in the box that it starts.
+    pub start: fn(&mut Gateway),
+    /// What it writes into lists that it only has to read.
+    pub writes: fn(Lists),
 }
 
 /// One without a slip.
@@ -45,7 +51,8 @@ pub const SOUND: StandIn = StandIn {
     by_value: NO_SLIPS,
     in_place: NO_SLIPS,
     why: whys::none,
-    writes: false,
+    start: |_| {},
+    writes: |_| {},
 };
 
 impl StandIn {
@@ -81,22 +88,19 @@ fn state_of(gateway: &Gateway) -> gateway::Gateway {
         automatic: (automatic.start, automatic.k.into()),
         lines,
         open: (0..8).filter(|port| marks >> port & 1 == 1).collect(),
+        index: gateway.index(),
     }
 }
 
 /// The box of a head and lists, as much as is lent; the rest is 0.
 fn box_of(head: Head, lists: &Lists) -> Gateway {
-    let mut gateway = Gateway {
-        head,
-        nodes: [0; PLACES],
-        starts: [0; PLACES],
-        ports: [0; PLACES],
-        sizes: [0; PLACES],
-    };
+    let mut gateway = Gateway::bare(head);
     fill(&mut gateway.nodes, lists.nodes);
     fill(&mut gateway.starts, lists.starts);
     fill(&mut gateway.ports, lists.ports);
     fill(&mut gateway.sizes, lists.sizes);
+    fill(&mut gateway.order, lists.order);
+    fill(&mut gateway.sets, lists.sets);
     gateway
 }
 
@@ -106,24 +110,16 @@ fn fill<T: Copy>(places: &mut [T], numbers: &[T]) {
     places[..count].copy_from_slice(&numbers[..count]);
 }
 
-fn lengths_of(lists: &Lists) -> [usize; 4] {
-    [
-        lists.nodes.len(),
-        lists.starts.len(),
-        lists.ports.len(),
-        lists.sizes.len(),
-    ]
-}
-
 fn bits(ports: impl IntoIterator<Item = u32>) -> u8 {
     ports.into_iter().map(|port| 1u8 << port).sum()
 }
 
-/// The answer to a message, with a slip where it is a restart or an announcement.
+/// The answer to a message, with a slip where it is a restart or an announcement, and with one in the index.
 fn received(gateway: &Gateway, port: u8, bytes: &[u8], slips: Slips) -> Answer {
-    let before = state_of(gateway);
+    let mut before = state_of(gateway);
+    (slips.index.test)(&mut before);
     let mut state = before.clone();
-    let outcome = state.receive(port.into(), bytes);
+    let mut outcome = state.receive(port.into(), bytes);
     let mut after = *gateway;
     if outcome.refusal == refusal::NONE {
         if let Some(restart) = Restart::of(&before, port, bytes) {
@@ -132,12 +128,19 @@ fn received(gateway: &Gateway, port: u8, bytes: &[u8], slips: Slips) -> Answer {
         if let Some(announcement) = Announcement::of(&before, port, bytes) {
             (slips.announcement)(&announcement, &mut state);
         }
+        state.set_lines(state.lines.clone());
+        let accepted = Accepted::of(&before, &state.lines, bytes);
+        (slips.index.index)(&accepted, &mut state.index);
+        (slips.index.lookup)(&accepted, &mut outcome.sent);
         after.head.marks = bits(state.open);
         after.head.count = state.lines.len();
         // Slips can make more lines than there are places.
         for (place, line) in state.lines.iter().take(PLACES).enumerate() {
             after.set_line(place, line);
         }
+        after.set_index(&state.index);
+    } else {
+        (slips.index.refused)(&mut after);
     }
     Answer {
         refusal: outcome.refusal,
@@ -157,13 +160,8 @@ impl Calls for StandIn {
             automatic,
             count: 0,
         };
-        let gateway = Gateway {
-            head,
-            nodes: [0; PLACES],
-            starts: [0; PLACES],
-            ports: [0; PLACES],
-            sizes: [0; PLACES],
-        };
+        let mut gateway = Gateway::bare(head);
+        (self.start)(&mut gateway);
         Answer {
             refusal,
             sent: 0,
@@ -176,7 +174,7 @@ impl Calls for StandIn {
     }
 
     fn receive_lists(&self, head: Head, lists: Lists, port: u8, bytes: &[u8]) -> LentAnswer {
-        if lengths_of(&lists) != [PLACES; 4] {
+        if lists.lengths() != LENT_LENGTHS {
             return LentAnswer {
                 refusal: refusal::BOUNDS,
                 sent: 0,
@@ -189,6 +187,8 @@ impl Calls for StandIn {
         fill(lists.starts, &answer.gateway.starts);
         fill(lists.ports, &answer.gateway.ports);
         fill(lists.sizes, &answer.gateway.sizes);
+        fill(lists.order, &answer.gateway.order);
+        fill(lists.sets, &answer.gateway.sets);
         LentAnswer {
             refusal: answer.refusal,
             sent: answer.sent,
@@ -202,16 +202,14 @@ impl Calls for StandIn {
         let asked = Asked {
             gateway: &gateway,
             state: state_of(&gateway),
-            lengths: lengths_of(&lists),
+            lengths: lists.lengths(),
             port: port.into(),
             asked: asked.into(),
             bytes,
         };
         let mut reason = reason_of(asked.rightly());
         (self.why)(&asked, &mut reason);
-        if let (true, Some(last)) = (self.writes, lists.sizes.last_mut()) {
-            *last ^= 1;
-        }
+        (self.writes)(lists);
         reason
     }
 }
@@ -240,7 +238,7 @@ pub fn differs(seed: u64, sort: Sort, index: u64, stand_in: &StandIn, column: &m
 }
 
 /// A sound archive agrees on every input, and as many inputs as there are by default reach every row, a tenth of them those of nested ranges; those of why, of
-/// moves, of what is covered and of what goes at a restart are reached many times. In half of the histories or more a board moves.
+/// moves, of what is covered, of what goes at a restart and of the index are reached many times. In half of the histories or more a board moves.
 #[test]
 fn a_sound_archive() {
     let mut columns = Columns::default();
@@ -266,11 +264,17 @@ fn a_sound_archive() {
     };
     let of_covers = |row: &Row| matches!(row, Row::Cover(_));
     let of_restarts = |row: &Row| matches!(row, Row::Restarted(_) | Row::RestartedInFull(_));
+    let of_index = |row: &Row| matches!(row, Row::Indexed(_));
+    let of_damage = |row: &Row| matches!(row, Row::Damaged(_) | Row::ListLength(_));
     for (sort, many, least) in [
         (Sort::Box, of_box as fn(&Row) -> bool, 200),
         (Sort::Box, of_covers, 100),
         (Sort::Box, of_restarts, 50),
         (Sort::Nest, of_covers, 100),
+        (Sort::Box, of_index, 100),
+        (Sort::Nest, of_index, 100),
+        (Sort::Box, of_damage, 20),
+        (Sort::Nest, of_damage, 20),
     ] {
         for row in Row::all().into_iter().filter(many) {
             let seen = columns[sort as usize].seen(row);
@@ -281,20 +285,26 @@ fn a_sound_archive() {
     assert!(2 * column.seen(Row::BoardMoved) >= column.seen(Row::Inputs));
 }
 
-/// A call that writes into the lists is found, on lists of any length.
+/// Changes the last place of a list, where there is one.
+fn change_last<T: std::ops::BitXorAssign + From<u8>>(list: &mut [T]) {
+    if let Some(last) = list.last_mut() {
+        *last ^= 1.into();
+    }
+}
+
+/// A call that writes into a list that it only has to read is found, on lists of any length.
 #[test]
 fn writing() {
-    let stand_in = StandIn {
-        writes: true,
-        ..SOUND
-    };
-    for index in 0..300 {
-        assert!(differs(
-            1,
-            Sort::Box,
-            index,
-            &stand_in,
-            &mut Column::default()
-        ));
+    let writes: [fn(Lists); 3] = [
+        |lists| change_last(lists.sizes),
+        |lists| change_last(lists.order),
+        |lists| change_last(lists.sets),
+    ];
+    for writes in writes {
+        let stand_in = StandIn { writes, ..SOUND };
+        for index in 0..300 {
+            let column = &mut Column::default();
+            assert!(differs(1, Sort::Box, index, &stand_in, column));
+        }
     }
 }

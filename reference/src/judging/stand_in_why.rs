@@ -1,6 +1,6 @@
 //! Slips in the answer why, in the stand-in for the archive's box (02, W1).
 
-use crate::gateway::{self, holds, Line};
+use crate::gateway::{self, holds, Line, LENT_LENGTHS};
 use crate::lent_box::{Block, Gateway, Reason, PLACES};
 use crate::message::{self, reported_event};
 use crate::refusal;
@@ -15,7 +15,7 @@ use super::stand_in_box::{differs, StandIn};
 pub struct Asked<'a> {
     pub gateway: &'a Gateway,
     pub state: gateway::Gateway,
-    pub lengths: [usize; 4],
+    pub lengths: [usize; 6],
     pub port: u32,
     pub asked: u32,
     pub bytes: &'a [u8],
@@ -31,10 +31,13 @@ impl Asked<'_> {
             .why_on_lists(self.lengths, self.port, self.asked, self.bytes)
     }
 
-    /// The answer on the same lists in another state.
-    fn in_state(&self, change: impl FnOnce(&mut gateway::Gateway)) -> Reason {
+    /// The answer on the same lists in another state; other lines have their own index.
+    pub fn in_state(&self, change: impl FnOnce(&mut gateway::Gateway)) -> Reason {
         let mut state = self.state.clone();
         change(&mut state);
+        if state.lines != self.state.lines {
+            state.set_lines(state.lines.clone());
+        }
         reason_of(state.why_on_lists(self.lengths, self.port, self.asked, self.bytes))
     }
 
@@ -50,7 +53,7 @@ impl Asked<'_> {
     }
 
     /// The right answer where the line in that place is the one.
-    fn held_in(&self, place: usize) -> Reason {
+    pub fn held_in(&self, place: usize) -> Reason {
         let line = self.state.lines[place];
         reason_of(Ok(why::Reason::Held { place, line }))
     }
@@ -190,7 +193,8 @@ fn bits_12_and_13_do_not_count(asked: &Asked, reason: &mut Reason) {
 }
 
 fn lengths_are_not_tested(asked: &Asked, reason: &mut Reason) {
-    if asked.lengths.iter().all(|length| *length >= PLACES) {
+    let mut pairs = asked.lengths.iter().zip(LENT_LENGTHS);
+    if pairs.all(|(length, right)| *length >= right) {
         *reason = reason_of(asked.state.why(asked.port, asked.asked, asked.bytes));
     }
 }

@@ -16,7 +16,7 @@ pub const BOX_WAYS: [&str; 10] = [
 /// How many ways there are.
 pub const BOX_WAY_COUNT: usize = BOX_WAYS.len();
 /// The lists of the box's call in place that are not as long as they should be.
-pub const LENGTHS: [&str; 10] = [
+pub const LENGTHS: [&str; 16] = [
     "list too short: nodes",
     "list too long: nodes",
     "list too short: starts",
@@ -25,8 +25,14 @@ pub const LENGTHS: [&str; 10] = [
     "list too long: ports",
     "list too short: sizes",
     "list too long: sizes",
-    "list too short: all four",
-    "list too long: all four",
+    "list too short: all six",
+    "list too long: all six",
+    "order of no places",
+    "order of 255 places",
+    "order of 257 places",
+    "no sets",
+    "8 sets",
+    "10 sets",
 ];
 /// How many of these there are.
 pub const LENGTH_COUNT: usize = LENGTHS.len();
