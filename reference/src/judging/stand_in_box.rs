@@ -273,8 +273,8 @@ fn a_sound_archive() {
         (Sort::Nest, of_covers, 100),
         (Sort::Box, of_index, 100),
         (Sort::Nest, of_index, 100),
-        (Sort::Box, of_damage, 20),
-        (Sort::Nest, of_damage, 20),
+        (Sort::Box, of_damage, 15),
+        (Sort::Nest, of_damage, 15),
     ] {
         for row in Row::all().into_iter().filter(many) {
             let seen = columns[sort as usize].seen(row);
