@@ -1,31 +1,32 @@
-//! The box as one writes it without proofs: a fixed table changed in place, content borrowed, text into a lent buffer, nothing allocated.
+//! Messages and the box as one writes them without proofs: content borrowed, a fixed table changed in place and read line by line, nothing allocated.
 
 use reference::message::Message;
 use reference::refusal;
-use reference::trial::{BAD_FILE, HOUSE_NUMBER, MOST_BYTES, MOST_ENTRIES};
 
-const MOST_LINES: usize = 256;
+use crate::quick_trial::PlainBox;
+
+pub const MOST_LINES: usize = 256;
 const NODE_ID_BITS: u64 = 0xFFFF_FFFF_FFFF;
 
 /// The low k bits, k up to 64.
-fn low_bits(k: u8) -> u64 {
+pub fn low_bits(k: u8) -> u64 {
     !u64::MAX.unbounded_shl(k.into())
 }
 
 /// The block of a range number, as its start and k.
-fn block_of(number: u64) -> (u64, u8) {
+pub fn block_of(number: u64) -> (u64, u8) {
     let zeros_or_ones = number.trailing_zeros() | number.trailing_ones();
     let k = zeros_or_ones as u8;
     (number & !low_bits(k), k)
 }
 
 /// The low k bits of the start are 0; a start of 0 has 64 of them, so no k above 64 passes.
-fn is_block(start: u64, k: u8) -> bool {
+pub fn is_block(start: u64, k: u8) -> bool {
     u32::from(k) <= start.trailing_zeros()
 }
 
 /// Start and event agree on all bits above the low k.
-fn holds(start: u64, k: u8, event: u64) -> bool {
+pub fn holds(start: u64, k: u8, event: u64) -> bool {
     u32::from(k) + (start ^ event).leading_zeros() >= 64
 }
 
@@ -90,7 +91,7 @@ pub fn read(bytes: &[u8]) -> Result<Reading<'_>, u8> {
     take_apart(bytes)
 }
 
-fn take_apart(bytes: &[u8]) -> Result<Reading<'_>, u8> {
+pub fn take_apart(bytes: &[u8]) -> Result<Reading<'_>, u8> {
     let [high, low, ..] = *bytes else {
         return Err(refusal::TOO_SHORT);
     };
@@ -183,14 +184,6 @@ pub fn write(message: &Message, content: &[u8], out: &mut [u8]) -> Result<usize,
     Ok(length)
 }
 
-/// Writes to the front of `out` as much as fits, and leaves `out` as what is left.
-fn put(out: &mut &mut [u8], bytes: &[u8]) {
-    let fits = bytes.len().min(out.len());
-    let (front, rest) = std::mem::take(out).split_at_mut(fits);
-    front.copy_from_slice(&bytes[..fits]);
-    *out = rest;
-}
-
 #[derive(Clone, Copy, Debug, Default, PartialEq, Eq)]
 pub struct Line {
     pub node: u64,
@@ -208,8 +201,8 @@ pub struct Gateway {
     pub lines: [Line; MOST_LINES],
 }
 
-impl Gateway {
-    pub fn start(ports: u8, automatic: u64) -> Gateway {
+impl PlainBox for Gateway {
+    fn start(ports: u8, automatic: u64) -> Gateway {
         Gateway {
             ports,
             marks: 0,
@@ -219,17 +212,22 @@ impl Gateway {
         }
     }
 
-    pub fn lines(&self) -> &[Line] {
-        &self.lines[..self.count]
-    }
-
-    /// A message at a port: the refusal or 0, and the ports it is sent to; never inlined, as the proved call cannot be.
     #[inline(never)]
-    pub fn receive(&mut self, port: u8, bytes: &[u8], check: bool) -> (u8, u8) {
+    fn receive(&mut self, port: u8, bytes: &[u8], check: bool) -> (u8, u8) {
         match self.accept(port, bytes, check) {
             Ok(sent) => (refusal::NONE, sent),
             Err(refusal) => (refusal, 0),
         }
+    }
+
+    fn count(&self) -> usize {
+        self.count
+    }
+}
+
+impl Gateway {
+    pub fn lines(&self) -> &[Line] {
+        &self.lines[..self.count]
     }
 
     fn accept(&mut self, port: u8, bytes: &[u8], check: bool) -> Result<u8, u8> {
@@ -370,93 +368,4 @@ fn first_line_of(node: u64, lines: &[Line]) -> Option<usize> {
     }
     let within = rest.iter().position(goes)?;
     Some(8 * eights.len() + within)
-}
-
-/// The text of a trial file, as much as fits; answers how many bytes that took.
-#[inline(never)]
-pub fn trial_text(file: &[u8], text: &mut [u8], check: bool) -> usize {
-    let room = text.len();
-    let mut left = text;
-    let Some((table, mut bodies)) = parts_of(file) else {
-        put(&mut left, BAD_FILE);
-        return room - left.len();
-    };
-    let mut gateway = Gateway::start(4, HOUSE_NUMBER);
-    for (number, entry) in table.iter().enumerate() {
-        let (body, rest) = bodies.split_at(length_in(entry));
-        bodies = rest;
-        let (refusal, sent) = gateway.receive(entry[0], body, check);
-        let mut line = LineOfText::default();
-        line.number(number);
-        line.answer(refusal, sent);
-        line.number(gateway.count);
-        line.end(&mut left);
-    }
-    room - left.len()
-}
-
-/// The contents table and the bodies, or nothing for a bad file.
-fn parts_of(file: &[u8]) -> Option<(&[[u8; 3]], &[u8])> {
-    if file.len() > MOST_BYTES {
-        return None;
-    }
-    let (count, rest) = file.split_first_chunk()?;
-    let count = usize::from(u16::from_be_bytes(*count));
-    if count > MOST_ENTRIES {
-        return None;
-    }
-    let (table, bodies) = rest.split_at_checked(3 * count)?;
-    let (entries, _) = table.as_chunks();
-    let total: usize = entries.iter().map(length_in).sum();
-    (bodies.len() == total).then_some((entries, bodies))
-}
-
-fn length_in(entry: &[u8; 3]) -> usize {
-    usize::from(u16::from_be_bytes([entry[1], entry[2]]))
-}
-
-/// A line before it goes out; the longest is "999 refused 8 256".
-#[derive(Default)]
-struct LineOfText {
-    bytes: [u8; 24],
-    used: usize,
-}
-
-impl LineOfText {
-    fn push(&mut self, byte: u8) {
-        self.bytes[self.used] = byte;
-        self.used += 1;
-    }
-
-    /// A number below 1,000 and a space.
-    fn number(&mut self, number: usize) {
-        if number >= 100 {
-            self.push(b'0' + (number / 100) as u8);
-        }
-        if number >= 10 {
-            self.push(b'0' + (number / 10 % 10) as u8);
-        }
-        self.push(b'0' + (number % 10) as u8);
-        self.push(b' ');
-    }
-
-    fn answer(&mut self, refusal: u8, sent: u8) {
-        if refusal == refusal::NONE {
-            for port in 0..4 {
-                self.push(b'0' + (sent >> port & 1));
-            }
-            self.push(b' ');
-        } else {
-            for byte in *b"refused " {
-                self.push(byte);
-            }
-            self.number(refusal.into());
-        }
-    }
-
-    /// The line ends in place of its last space, and goes out.
-    fn end(mut self, out: &mut &mut [u8]) {
-        self.bytes[self.used - 1] = b'\n';
-        put(out, &self.bytes[..self.used]);
-    }
 }
