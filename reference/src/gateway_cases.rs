@@ -193,7 +193,10 @@ impl Bench {
             lines: self.lines(),
             open: (0..8).filter(|port| self.marks >> port & 1 == 1).collect(),
             index: Index {
-                order: self.order[..self.used()].iter().map(|number| usize::from(*number)).collect(),
+                order: self.order[..self.used()]
+                    .iter()
+                    .map(|number| usize::from(*number))
+                    .collect(),
                 sets: self.sets,
             },
         }

@@ -11,12 +11,22 @@ mod dice;
 mod quick;
 #[path = "speed/quick_can.rs"]
 mod quick_can;
+#[path = "speed/quick_index.rs"]
+mod quick_index;
+#[path = "speed/quick_index_test.rs"]
+mod quick_index_test;
+#[path = "speed/quick_trial.rs"]
+mod quick_trial;
 #[path = "speed/rows.rs"]
 mod rows;
 #[path = "speed/rows_box.rs"]
 mod rows_box;
 #[path = "speed/rows_can.rs"]
 mod rows_can;
+#[path = "speed/rows_sizes.rs"]
+mod rows_sizes;
+#[path = "speed/states.rs"]
+mod states;
 
 use std::fmt::Display;
 use std::process::ExitCode;
@@ -27,9 +37,12 @@ use rows::{Call, Row, COLUMNS};
 const ROUNDS: usize = 31;
 const ROUND_TIME: Duration = Duration::from_millis(5);
 const USAGE: &str =
-    "speed | speed --rows | speed --count ROW proved|'by value'|checked|unchecked N";
+    "speed | speed --rows | speed --count ROW proved|'by value'|checked|unchecked|'by line' N";
 const NOTES: &str = "proved: the box's call in place on lent lists; by value: the same work through the call that takes the state and gives the next one back.
-checked: the box without proofs, with document 01's test of the whole state first; unchecked: without it. - where there is no such call.
+checked: the box without proofs that keeps the same index, with the test of the whole state and of its index first; unchecked: without that test.
+by line: a box without proofs and without an index that tests its state and reads its table line by line. - where there is no such call.
+report-256-of-4-on-8: a report that no line holds, through 256 lines of 4 sizes at 8 ports. test-256: a call that is refused with 8, which is the test of the state and
+of its index, through 256 lines of 4 sizes at 4 ports; by line without an index to test.
 split-256 and join-256: a report with 256 bytes of payload and a list of 128 pairs, the state by value in all columns, join-256 all 33 frames; unchecked leaves
 out the test of the list.
 announce-inside: an event inside the last of 64 lines. announce-over-64: a block that holds every other one of 128 lines.
@@ -96,13 +109,13 @@ fn measure() {
 /// ns per call in every round of a column, the fastest first; none where the column is empty.
 type Rounds = [Vec<f64>; COLUMNS.len()];
 
-fn print_table(measured: &[(&str, Rounds)], place: usize) {
-    let ratios = ["p/checked", "p/unchecked"];
+fn print_table(measured: &[(String, Rounds)], place: usize) {
+    let ratios = ["p/checked", "p/unchecked", "p/by line"];
     print_line("row", COLUMNS.into_iter().chain(ratios));
     for (name, rounds) in measured {
         let figures = rounds.each_ref().map(|all| all.get(place).copied());
-        let [proved, _, checked, unchecked] = figures;
-        let ratios = [ratio(proved, checked), ratio(proved, unchecked)];
+        let [proved, _, others @ ..] = figures;
+        let ratios = others.map(|other| ratio(proved, other));
         let figures = figures.map(|figure| shown(figure, 1));
         let ratios = ratios.map(|ratio| shown(ratio, 2));
         print_line(name, figures.into_iter().chain(ratios));
@@ -111,7 +124,7 @@ fn print_table(measured: &[(&str, Rounds)], place: usize) {
 
 fn print_line(name: &str, cells: impl Iterator<Item = impl Display>) {
     let cells: String = cells.map(|cell| format!("{cell:>12}")).collect();
-    println!("{name:<20}{cells}");
+    println!("{name:<24}{cells}");
 }
 
 fn shown(figure: Option<f64>, decimals: usize) -> String {

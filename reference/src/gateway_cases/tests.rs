@@ -175,7 +175,12 @@ fn the_index_changed() {
     let report = "at 0: 05b4 0a0000000009 0000000000000009\n";
     let after = |changed: &str| text(&format!("{laid}{changed}{report}"));
     let shown = |order: &str, sets: &str| format!("    order {order}; sets {sets} 0 0 0 0 0 0 0\n");
-    for changed in ["", "order 2 ff\n", "order 102 0\norder ff 1\n", "order 101 101\n"] {
+    for changed in [
+        "",
+        "order 2 ff\n",
+        "order 102 0\norder ff 1\n",
+        "order 101 101\n",
+    ] {
         assert!(after(changed).contains("  0100; box 4"), "{changed}");
         assert!(after(changed).ends_with(&shown("0 1", "0 1")), "{changed}");
     }
@@ -187,7 +192,10 @@ fn the_index_changed() {
         ("sets a 3\n", "0 1", "0 3"),
         ("sets 0 8000000000000000\n", "0 1", "8000000000000000 1"),
     ] {
-        assert!(after(changed).contains("  refused 7, kept; box 4"), "{changed}");
+        assert!(
+            after(changed).contains("  refused 7, kept; box 4"),
+            "{changed}"
+        );
         assert!(after(changed).ends_with(&shown(order, sets)), "{changed}");
     }
     assert!(after("order 1\n").contains("  line 3: cannot be read"));

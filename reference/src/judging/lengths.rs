@@ -175,7 +175,10 @@ impl Debug for Owned {
             let (port, node) = (self.ports[place], self.nodes[place]);
             let (start, k) = (self.starts[place], self.sizes[place]);
             let number = self.order[place];
-            write!(out, "\nplace {place}: {port} {node:X} {start:016X} {k}; order {number:X}")?;
+            write!(
+                out,
+                "\nplace {place}: {port} {node:X} {start:016X} {k}; order {number:X}"
+            )?;
         }
         write!(out, "\nsets {:X?}", self.sets)
     }

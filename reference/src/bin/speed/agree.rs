@@ -1,13 +1,18 @@
-//! Before anything is measured: the quick box answers as the reference does.
+//! Before anything is measured: both plain boxes answer as the reference does.
 
 use std::collections::BTreeSet;
 
+use reference::index::Index;
 use reference::message::{self, Message};
+use reference::refusal;
 use reference::trial::HOUSE_NUMBER;
 use reference::{gateway, trial};
 
 use crate::dice::Dice;
 use crate::quick::{self, Line};
+use crate::quick_index;
+use crate::quick_trial::{trial_text, PlainBox};
+use crate::states::{as_proved, reference_line, with_index};
 
 const MTIS: [u16; 24] = [
     0x0100, 0x0110, 0x05B4, 0x0F14, 0x08F4, 0x0914, 0x04C4, 0x04C5, 0x04C6, 0x04C7, 0x0544, 0x0545,
@@ -23,6 +28,7 @@ pub fn with_the_reference() {
         compare_reading(&mut dice);
         compare_writing(&mut dice);
         compare_bounds(&mut dice);
+        compare_damaged(&mut dice);
     }
     for _ in 0..60 {
         compare_histories(&mut dice);
@@ -111,31 +117,63 @@ fn fill(quick: &mut quick::Gateway, count: usize) {
     }
 }
 
+/// The box that reads line by line and the one with an index go through the message as the reference does.
 fn receive_on_both(quick: &mut quick::Gateway, port: u8, bytes: &[u8], check: bool) {
     let mut slow = as_reference(quick);
+    let mut indexed = with_index(quick);
     let outcome = slow.receive(port.into(), bytes);
     let sent = outcome.sent.iter().fold(0, |set, port| set | 1 << port);
-    assert_eq!(quick.receive(port, bytes, check), (outcome.refusal, sent));
+    let expected = (outcome.refusal, sent);
+    assert_eq!(quick.receive(port, bytes, check), expected);
+    assert_eq!(indexed.receive(port, bytes, check), expected);
     assert_eq!(as_reference(quick), slow);
+    let after = as_proved(&indexed);
+    assert_eq!(
+        (after.head.marks, after.head.count),
+        (quick.marks, quick.count)
+    );
+    assert_eq!((after.lines(), after.index()), (slow.lines, slow.index));
 }
 
 fn as_reference(quick: &quick::Gateway) -> gateway::Gateway {
     let open = (0..8).filter(|port| quick.marks >> port & 1 == 1);
+    let lines: Vec<gateway::Line> = quick.lines().iter().map(reference_line).collect();
     gateway::Gateway {
         ports: quick.ports.into(),
         automatic: (quick.automatic.0, quick.automatic.1.into()),
-        lines: quick.lines().iter().map(reference_line).collect(),
+        index: Index::of(&lines),
+        lines,
         open: BTreeSet::from_iter(open),
     }
 }
 
-fn reference_line(line: &Line) -> gateway::Line {
-    gateway::Line {
-        port: line.port.into(),
-        node: line.node,
-        start: line.start,
-        k: line.k.into(),
+/// An index with one or two numbers spoilt is taken exactly where the reference takes it.
+fn compare_damaged(dice: &mut Dice) {
+    let mut quick = quick::Gateway::start(2 + dice.below(7) as u8, HOUSE_NUMBER);
+    quick.count = dice.below(9) as usize;
+    for line in &mut quick.lines[..quick.count] {
+        *line = Line {
+            node: NODE,
+            start: 0x100 * dice.below(3),
+            k: dice.pick(&[0, 0, 8]),
+            port: dice.below(2) as u8,
+        };
     }
+    let mut slow = as_reference(&quick);
+    let mut indexed = with_index(&quick);
+    match dice.below(5) {
+        0 => indexed.order[dice.below(9) as usize] = dice.below(10) as u8,
+        1 => indexed
+            .order
+            .swap(dice.below(8) as usize, dice.below(8) as usize),
+        2 => indexed.sets[dice.below(9) as usize] ^= 1 << dice.pick(&[0, 1, 8, 63]),
+        3 => indexed.order[..8].reverse(),
+        _ => {}
+    }
+    slow.index = as_proved(&indexed).index();
+    let refusal = slow.receive(0, &[]).refusal;
+    assert_eq!(indexed.receive(0, &[], true), (refusal, 0));
+    assert!([refusal::BOUNDS, refusal::TOO_SHORT].contains(&refusal));
 }
 
 fn compare_trials(dice: &mut Dice) {
@@ -150,8 +188,13 @@ fn compare_trials(dice: &mut Dice) {
     let slow = trial::trial_text(&file);
     let mut text = [0; 20_000];
     let room = dice.pick(&[0, 8, 1_000, 20_000]);
-    let took = quick::trial_text(&file, &mut text[..room], true);
-    assert_eq!(text[..took], slow[..room.min(slow.len())]);
+    for trial_text in [
+        trial_text::<quick::Gateway>,
+        trial_text::<quick_index::Gateway>,
+    ] {
+        let took = trial_text(&file, &mut text[..room], true);
+        assert_eq!(text[..took], slow[..room.min(slow.len())]);
+    }
 }
 
 /// A message's bytes, one in eight of them cut or lengthened.

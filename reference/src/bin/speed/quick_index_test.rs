@@ -33,7 +33,9 @@ impl Gateway {
     #[inline(always)]
     fn walked<const LOOK: bool>(&self, event: u64) -> Option<u8> {
         let order = &self.order[..self.count];
-        let highest = order.iter().fold(0, |highest, number| *number.max(&highest));
+        let highest = order
+            .iter()
+            .fold(0, |highest, number| *number.max(&highest));
         if usize::from(highest) >= self.count.max(1) {
             return None;
         }

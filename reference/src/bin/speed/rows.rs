@@ -7,18 +7,19 @@ use reference::proved;
 use reference::trial;
 
 use crate::dice::Dice;
-use crate::quick;
-use crate::{rows_box, rows_can};
+use crate::quick_trial::{trial_text, PlainBox};
+use crate::{quick, quick_index};
+use crate::{rows_box, rows_can, rows_sizes};
 
-/// A box's proved column is the call in place.
-pub const COLUMNS: [&str; 4] = ["proved", "by value", "checked", "unchecked"];
+/// A box's proved column is the call in place; checked and unchecked are of the plain box with an index, by line of the one without.
+pub const COLUMNS: [&str; 5] = ["proved", "by value", "checked", "unchecked", "by line"];
 
 /// Makes the call so many times.
 pub type Call = Box<dyn FnMut(u64)>;
 
 pub struct Row {
-    pub name: &'static str,
-    /// In the order of `COLUMNS`; where no state is passed, nothing goes by value, and where there is none, nothing can be left unchecked.
+    pub name: String,
+    /// In the order of `COLUMNS`; where no state is passed, nothing goes by value, and where there is none, nothing can be left unchecked or read by line.
     pub calls: [Option<Call>; COLUMNS.len()],
 }
 
@@ -33,6 +34,7 @@ const MOST_CONTENT: [u8; 72] = [0x55; 72];
 
 pub fn all() -> Vec<Row> {
     let mut rows = rows_box::all();
+    rows.extend(rows_sizes::all());
     rows.push(trial_row());
     rows.extend(reading_rows());
     rows.extend(writing_rows());
@@ -67,27 +69,29 @@ fn trial_row() -> Row {
     let file = trial::file_of(&trial_entries());
     let mut text = vec![0; 65_536];
     let took = proved::trial_text(&file, &mut text);
-    for check in [true, false] {
-        let mut other = vec![0; 65_536];
-        assert_eq!(quick::trial_text(&file, &mut other, check), took);
-        assert_eq!(text, other);
-    }
-    let quick_call = |check| {
+    text.truncate(took);
+    let proved = {
         let (file, mut text) = (file.clone(), vec![0; 65_536]);
-        repeat(move || quick::trial_text(black_box(&file), black_box(&mut text), check))
+        repeat(move || proved::trial_text(black_box(&file), black_box(&mut text)))
     };
-    let (checked, unchecked) = (quick_call(true), quick_call(false));
     Row {
-        name: "trial-1000",
+        name: "trial-1000".to_string(),
         calls: [
-            Some(repeat(move || {
-                proved::trial_text(black_box(&file), black_box(&mut text))
-            })),
+            Some(proved),
             None,
-            Some(checked),
-            Some(unchecked),
+            Some(plain_trial::<quick_index::Gateway>(&file, &text, true)),
+            Some(plain_trial::<quick_index::Gateway>(&file, &text, false)),
+            Some(plain_trial::<quick::Gateway>(&file, &text, true)),
         ],
     }
+}
+
+/// The trial through a plain box, once its text is the expected one.
+fn plain_trial<Plain: PlainBox + 'static>(file: &[u8], expected: &[u8], check: bool) -> Call {
+    let (file, mut text) = (file.to_vec(), vec![0; 65_536]);
+    let took = trial_text::<Plain>(&file, &mut text, check);
+    assert_eq!(&text[..took], expected);
+    repeat(move || trial_text::<Plain>(black_box(&file), black_box(&mut text), check))
 }
 
 /// 399 entries announce, 23 restart, 534 report, 44 do something else; the table has 92 lines on average and 125 at the end.
@@ -131,13 +135,14 @@ fn reading_row(name: &'static str, bytes: Vec<u8>) -> Row {
     assert_eq!(&bytes[proved.content_at..], quick.content);
     let same_bytes = bytes.clone();
     Row {
-        name,
+        name: name.to_string(),
         calls: [
             Some(repeat(move || proved::read(black_box(&bytes)))),
             None,
             Some(repeat(move || {
                 black_box(&quick::read(black_box(&same_bytes)));
             })),
+            None,
             None,
         ],
     }
@@ -168,7 +173,7 @@ fn writing_row(name: &'static str, message: Message, content: &'static [u8]) -> 
     );
     assert_eq!(out, other_out);
     Row {
-        name,
+        name: name.to_string(),
         calls: [
             Some(repeat(move || {
                 proved::write(*black_box(&fields), black_box(content), black_box(&mut out))
@@ -181,6 +186,7 @@ fn writing_row(name: &'static str, message: Message, content: &'static [u8]) -> 
                     black_box(&mut other_out),
                 )
             })),
+            None,
             None,
         ],
     }

@@ -1,12 +1,13 @@
-//! What is measured of the box: reports, announcements and restarts, each in place, by value and by the quick box.
+//! What is measured of the box: reports, announcements and restarts, each in place, by value and by both plain boxes.
 
 use std::hint::black_box;
 
-use reference::proved;
-use reference::trial::HOUSE_NUMBER;
+use reference::{proved, refusal};
 
 use crate::quick::{self, Line};
+use crate::quick_trial::PlainBox;
 use crate::rows::{message, repeat, restart, Call, Row, CONSUMER_IDENTIFIED, EVENT, NODE, REPORT};
+use crate::states::{as_proved, with_index, with_lines};
 
 /// No line of any table here holds it, and it is not automatic.
 const UNWANTED: u64 = 0x0B00_0000_0000_0000;
@@ -27,15 +28,17 @@ pub fn all() -> Vec<Row> {
 
 /// The state's copy alone, which the rows with a fresh state contain.
 fn copy_row() -> Row {
-    let quick = table(256);
-    let proved = as_proved(&quick);
+    let by_line = table(256);
+    let indexed = with_index(&by_line);
+    let proved = as_proved(&indexed);
     Row {
-        name: "copy",
+        name: "copy".to_string(),
         calls: [
             Some(repeat(move || *black_box(&proved))),
             None,
-            Some(repeat(move || *black_box(&quick))),
+            Some(repeat(move || *black_box(&indexed))),
             None,
+            Some(repeat(move || *black_box(&by_line))),
         ],
     }
 }
@@ -93,7 +96,7 @@ fn replacing_row() -> Row {
 }
 
 fn restart_rows() -> Vec<Row> {
-    let row = |name, count, node, gone| {
+    let row = |name: &str, count, node, gone| {
         let gateway = table_to_restart(count);
         changing(name, gateway, 1, restart(node), count - gone)
     };
@@ -120,12 +123,8 @@ fn table_to_restart(count: usize) -> quick::Gateway {
 
 /// A box of four ports with these many lines, none of them for port 0.
 fn table(count: usize) -> quick::Gateway {
-    let mut gateway = quick::Gateway::start(4, HOUSE_NUMBER);
-    gateway.count = count;
-    for place in 0..count {
-        gateway.lines[place] = nth_line(place);
-    }
-    gateway
+    let lines: Vec<Line> = (0..count).map(nth_line).collect();
+    with_lines(4, &lines)
 }
 
 /// Every line another event, every fourth a range of 16; eight lines to a node.
@@ -139,43 +138,33 @@ fn nth_line(place: usize) -> Line {
 }
 
 /// A message that leaves the state as it was, so the calls go on with the same one.
-fn unchanging(
-    name: &'static str,
-    start: quick::Gateway,
-    port: u8,
-    bytes: Vec<u8>,
-    sent: u8,
-) -> Row {
-    let after = agreed_state(&start, port, &bytes, sent);
+pub fn unchanging(name: &str, start: quick::Gateway, port: u8, bytes: Vec<u8>, sent: u8) -> Row {
+    let after = agreed_state(&start, port, &bytes, (refusal::NONE, sent));
     assert_eq!(after.lines(), start.lines());
     box_row(name, &start, port, &bytes, false)
 }
 
+/// A message that is refused at a port that is not there.
+pub fn refused(name: &str, start: quick::Gateway, bytes: Vec<u8>) -> Row {
+    let port = start.ports;
+    agreed_state(&start, port, &bytes, (refusal::PORT, 0));
+    box_row(name, &start, port, &bytes, false)
+}
+
 /// A message that changes the state, or one to compare with such: every call takes a fresh copy, which counts.
-fn changing(
-    name: &'static str,
-    start: quick::Gateway,
-    port: u8,
-    bytes: Vec<u8>,
-    count: usize,
-) -> Row {
-    let after = agreed_state(&start, port, &bytes, 0b1101);
+fn changing(name: &str, start: quick::Gateway, port: u8, bytes: Vec<u8>, count: usize) -> Row {
+    let after = agreed_state(&start, port, &bytes, (refusal::NONE, 0b1101));
     assert_eq!(after.count, count);
     box_row(name, &start, port, &bytes, true)
 }
 
 /// By value the state is copied in every row, so the call's own copy is the fresh one.
-fn box_row(name: &'static str, start: &quick::Gateway, port: u8, bytes: &[u8], fresh: bool) -> Row {
-    let proved = as_proved(start);
+fn box_row(name: &str, start: &quick::Gateway, port: u8, bytes: &[u8], fresh: bool) -> Row {
+    let indexed = with_index(start);
+    let proved = as_proved(&indexed);
     let (lent, passed) = (bytes.to_vec(), bytes.to_vec());
-    let quick = |check| {
-        let bytes = bytes.to_vec();
-        repeat_on(*start, fresh, move |gateway| {
-            gateway.receive(port, black_box(&bytes), check)
-        })
-    };
     Row {
-        name,
+        name: name.to_string(),
         calls: [
             Some(repeat_on(proved, fresh, move |gateway| {
                 proved::receive_lent(gateway, port, black_box(&lent))
@@ -183,10 +172,25 @@ fn box_row(name: &'static str, start: &quick::Gateway, port: u8, bytes: &[u8], f
             Some(repeat(move || {
                 proved::receive(black_box(&proved), port, black_box(&passed))
             })),
-            Some(quick(true)),
-            Some(quick(false)),
+            Some(plain_call(indexed, fresh, port, bytes, true)),
+            Some(plain_call(indexed, fresh, port, bytes, false)),
+            Some(plain_call(*start, fresh, port, bytes, true)),
         ],
     }
+}
+
+/// A plain box's call.
+fn plain_call<Plain: PlainBox + Copy + 'static>(
+    start: Plain,
+    fresh: bool,
+    port: u8,
+    bytes: &[u8],
+    check: bool,
+) -> Call {
+    let bytes = bytes.to_vec();
+    repeat_on(start, fresh, move |gateway| {
+        gateway.receive(port, black_box(&bytes), check)
+    })
 }
 
 /// Calls in place on one state, or each on a fresh copy of it.
@@ -206,38 +210,32 @@ fn repeat_on<State: Copy + 'static>(
     })
 }
 
-/// The state afterwards, once all four columns have given the same answer.
-fn agreed_state(start: &quick::Gateway, port: u8, bytes: &[u8], sent: u8) -> quick::Gateway {
-    let (mut checked, mut unchecked, mut in_place) = (*start, *start, as_proved(start));
+/// The state afterwards, once all columns have given the same answer.
+fn agreed_state(
+    start: &quick::Gateway,
+    port: u8,
+    bytes: &[u8],
+    expected: (u8, u8),
+) -> quick::Gateway {
+    let indexed = with_index(start);
+    let mut in_place = as_proved(&indexed);
     let by_value = proved::receive(&in_place, port, bytes);
+    let (mut checked, mut unchecked, mut by_line) = (indexed, indexed, *start);
     for answer in [
         proved::receive_lent(&mut in_place, port, bytes),
         (by_value.refusal, by_value.sent),
         checked.receive(port, bytes, true),
         unchecked.receive(port, bytes, false),
+        by_line.receive(port, bytes, true),
     ] {
-        assert_eq!(answer, (0, sent));
+        assert_eq!(answer, expected);
     }
-    let expected = as_proved(&checked);
-    for after in [in_place, by_value.gateway, as_proved(&unchecked)] {
-        assert_eq!(after.head, expected.head);
-        assert_eq!(after.lines(), expected.lines());
+    let right = as_proved(&with_index(&by_line));
+    let plain = [as_proved(&checked), as_proved(&unchecked)];
+    for after in plain.into_iter().chain([in_place, by_value.gateway]) {
+        assert_eq!(after.head, right.head);
+        assert_eq!(after.lines(), right.lines());
+        assert_eq!(after.index(), right.index());
     }
-    checked
-}
-
-fn as_proved(quick: &quick::Gateway) -> proved::Gateway {
-    let (start, k) = quick.automatic;
-    proved::Gateway {
-        head: proved::Head {
-            ports: quick.ports,
-            marks: quick.marks,
-            automatic: proved::Block { start, k },
-            count: quick.count,
-        },
-        nodes: quick.lines.map(|line| line.node),
-        starts: quick.lines.map(|line| line.start),
-        ports: quick.lines.map(|line| line.port),
-        sizes: quick.lines.map(|line| line.k),
-    }
+    by_line
 }

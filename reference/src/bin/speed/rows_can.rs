@@ -93,7 +93,7 @@ fn splitting_row() -> Row {
     let (checked, unchecked) = (quick(true), quick(false));
     let (mut pairs, payload) = (pairs, payload());
     Row {
-        name: "split-256",
+        name: "split-256".to_string(),
         calls: [
             Some(repeat(move || {
                 let lists = black_box(&mut pairs).lent();
@@ -103,6 +103,7 @@ fn splitting_row() -> Row {
             None,
             Some(checked),
             Some(unchecked),
+            None,
         ],
     }
 }
@@ -140,7 +141,7 @@ fn joining_row() -> Row {
     };
     let (checked, unchecked) = (quick(true), quick(false));
     Row {
-        name: "join-256",
+        name: "join-256".to_string(),
         calls: [
             Some(repeat(move || {
                 join_all(black_box(&frames), |state, frame| {
@@ -150,6 +151,7 @@ fn joining_row() -> Row {
             None,
             Some(checked),
             Some(unchecked),
+            None,
         ],
     }
 }

@@ -59,7 +59,14 @@ fn removed(lines: &[(u32, u64, u32)], gone: &[usize]) -> Vec<Indexed> {
     }
     let mut after = before.clone();
     let goes = |line: &Line| line.node == 8;
-    after.set_lines(before.lines.iter().copied().filter(|line| !goes(line)).collect());
+    after.set_lines(
+        before
+            .lines
+            .iter()
+            .copied()
+            .filter(|line| !goes(line))
+            .collect(),
+    );
     rows(|column| saw_removed(&before, &after.index, goes, column))
 }
 
