@@ -8,6 +8,8 @@ use crate::quick_trial::PlainBox;
 
 /// The k of the whole space.
 pub const WHOLE_K: u8 = 64;
+/// Above every number of a line.
+const STAYS: u16 = MOST_LINES as u16;
 
 #[derive(Clone, Copy)]
 pub struct Gateway {
@@ -29,7 +31,7 @@ pub fn kind_of(port: u8, k: u8) -> u16 {
 }
 
 /// The set that tells of a size, and its bit there.
-pub fn bit_of(kind: u16) -> (usize, u64) {
+fn bit_of(kind: u16) -> (usize, u64) {
     let [k, port] = kind.to_le_bytes();
     match k {
         WHOLE_K => (WHOLE_SPACE, 1 << port),
@@ -209,29 +211,29 @@ impl Gateway {
     #[inline(always)]
     fn remove(&mut self, first_gone: usize, goes: impl Fn(u64, u64, u16) -> bool) {
         let count = self.count;
-        let mut lowered: [u8; MOST_LINES] = std::array::from_fn(|number| number as u8);
-        let mut stays = [1u8; MOST_LINES];
+        // Of each number what it becomes, and above that 1 where its line stays.
+        let mut lowered: [u16; MOST_LINES] = std::array::from_fn(|number| STAYS | number as u16);
         let mut gone_sets = [0; SETS];
         let mut kept = first_gone;
         for place in first_gone..count {
             let (node, start, kind) = (self.nodes[place], self.starts[place], self.kinds[place]);
-            lowered[place] = kept as u8;
             if goes(node, start, kind) {
-                stays[place] = 0;
+                lowered[place] = 0;
                 let (set, bit) = bit_of(kind);
                 gone_sets[set] |= bit;
             } else {
                 self.nodes[kept] = node;
                 self.starts[kept] = start;
                 self.kinds[kept] = kind;
+                lowered[place] = STAYS | kept as u16;
                 kept += 1;
             }
         }
         let mut numbers = 0;
         for place in 0..count {
-            let number = usize::from(self.order[place]);
-            self.order[numbers & (MOST_LINES - 1)] = lowered[number];
-            numbers += usize::from(stays[number]);
+            let number = lowered[usize::from(self.order[place])];
+            self.order[numbers & (MOST_LINES - 1)] = number as u8;
+            numbers += usize::from(number / STAYS);
         }
         self.count = kept;
         self.take_out_of_sets(&gone_sets);

@@ -1,9 +1,16 @@
 //! The test of the box with an index: everything that refusal 7 covers, in one pass over the nodes and one over the index.
 
-use reference::index::SETS;
+use reference::index::WHOLE_SPACE;
 
 use crate::quick::{is_block, low_bits, MOST_LINES};
-use crate::quick_index::{bit_of, Gateway, WHOLE_K};
+use crate::quick_index::{kind_of, Gateway, WHOLE_K};
+
+/// A pass over the index: where it is, and the ports with a line that holds the event.
+struct Walk {
+    place: usize,
+    event: u64,
+    holding: u8,
+}
 
 impl Gateway {
     /// The ports with a line that holds the event, if it is looked for, or nothing where the state is out of bounds.
@@ -28,8 +35,8 @@ impl Gateway {
         bits >> 48 == 0
     }
 
-    /// Numbers below the count of which each is strictly below the next name every line, so the lines are tested where the index names them: their port and k once a
-    /// size. Each size takes its bit out of the sets, and none may be left.
+    /// Numbers below the count of which each is strictly below the next name every line once. So the lines are tested where the index names them: the sets say which
+    /// port and k comes next, and there has to be such a line; behind the last of them there may be none.
     #[inline(always)]
     fn walked<const LOOK: bool>(&self, event: u64) -> Option<u8> {
         let order = &self.order[..self.count];
@@ -39,50 +46,66 @@ impl Gateway {
         if usize::from(highest) >= self.count.max(1) {
             return None;
         }
-        let mut left: [u64; SETS] = self.sets;
-        let mut holding = 0;
-        let mut least_kind = 0;
-        let mut place = 0;
-        while let Some(first) = order.get(place) {
-            let mut number = *first;
-            let kind = self.kinds[usize::from(number)];
-            let [k, port] = kind.to_le_bytes();
-            if kind < least_kind || port >= self.ports || k > WHOLE_K {
-                return None;
+        let mut walk = Walk {
+            place: 0,
+            event,
+            holding: 0,
+        };
+        for port in 0..self.ports {
+            let mut sizes = self.sets[usize::from(port)];
+            while sizes != 0 {
+                let k = sizes.trailing_zeros() as u8;
+                sizes &= sizes - 1;
+                self.walk_size::<LOOK>(&mut walk, order, port, k)?;
             }
-            least_kind = kind + 1;
-            let (set, bit) = bit_of(kind);
-            if left[set] & bit == 0 {
-                return None;
-            }
-            left[set] ^= bit;
-            let inside = low_bits(k);
-            let prefix = event & !inside;
-            let mut start = self.starts[usize::from(number)];
-            let mut bits = start;
-            let mut holds = start == prefix;
-            place += 1;
-            while let Some(next) = order.get(place) {
-                let line = usize::from(*next);
-                if self.kinds[line] != kind {
-                    break;
-                }
-                let next_start = self.starts[line];
-                if next_start <= start && (next_start < start || *next <= number) {
-                    return None;
-                }
-                bits |= next_start;
-                holds |= next_start == prefix;
-                (number, start) = (*next, next_start);
-                place += 1;
-            }
-            if bits & inside != 0 {
-                return None;
-            }
-            if LOOK && holds {
-                holding |= 1 << port;
+            if self.sets[WHOLE_SPACE] >> port & 1 == 1 {
+                self.walk_size::<LOOK>(&mut walk, order, port, WHOLE_K)?;
             }
         }
-        (left.iter().fold(0, |bits, set| bits | set) == 0).then_some(holding)
+        let past_the_ports = self.sets[usize::from(self.ports)..WHOLE_SPACE]
+            .iter()
+            .fold(self.sets[WHOLE_SPACE] >> self.ports, |bits, set| bits | set);
+        (walk.place == order.len() && past_the_ports == 0).then_some(walk.holding)
+    }
+
+    /// The lines of one size, of which there is at least one; nothing where one is out of bounds or out of order.
+    #[inline(always)]
+    fn walk_size<const LOOK: bool>(
+        &self,
+        walk: &mut Walk,
+        order: &[u8],
+        port: u8,
+        k: u8,
+    ) -> Option<()> {
+        let kind = kind_of(port, k);
+        let inside = low_bits(k);
+        let prefix = walk.event & !inside;
+        let mut number = *order.get(walk.place)?;
+        if self.kinds[usize::from(number)] != kind {
+            return None;
+        }
+        let mut start = self.starts[usize::from(number)];
+        let mut bits = start;
+        let mut holds = start == prefix;
+        let mut place = walk.place + 1;
+        while let Some(next) = order.get(place) {
+            let line = usize::from(*next);
+            if self.kinds[line] != kind {
+                break;
+            }
+            let next_start = self.starts[line];
+            if next_start <= start && (next_start < start || *next <= number) {
+                return None;
+            }
+            bits |= next_start;
+            holds |= next_start == prefix;
+            (number, start) = (*next, next_start);
+            place += 1;
+        }
+        walk.place = place;
+        if LOOK && holds {
+            walk.holding |= 1 << port;
+        }
+        (bits & inside == 0).then_some(())
     }
 }
