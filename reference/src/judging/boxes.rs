@@ -336,9 +336,12 @@ fn kept_if_refused(
     before: &Gateway,
     after: &Gateway,
 ) -> bool {
+    if expected.refusal == 0 {
+        return true;
+    }
     let asked = || "nothing; every place of the lists after the refusal".to_string();
     let (before, after) = (Table::of_all_places(before), Table::of_all_places(after));
-    expected.refusal == 0 || witness.compare(asked, &after, &before)
+    witness.compare(asked, &after, &before)
 }
 
 /// A set of ports as bits.

@@ -68,6 +68,8 @@ mod stand_in_can;
 #[cfg(test)]
 mod stand_in_covers;
 #[cfg(test)]
+mod stand_in_damages;
+#[cfg(test)]
 mod stand_in_files;
 #[cfg(test)]
 mod stand_in_index;
