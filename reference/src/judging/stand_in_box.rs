@@ -44,6 +44,8 @@ pub struct StandIn {
     pub start: fn(&mut Gateway),
     /// What it writes into lists that it only has to read.
     pub writes: fn(Lists),
+    /// The list whose length it does not test, if there is one.
+    pub untested: Option<usize>,
 }
 
 /// One without a slip.
@@ -53,6 +55,7 @@ pub const SOUND: StandIn = StandIn {
     why: whys::none,
     start: |_| {},
     writes: |_| {},
+    untested: None,
 };
 
 impl StandIn {
@@ -68,6 +71,15 @@ impl StandIn {
             in_place,
             ..SOUND
         }
+    }
+
+    /// How long the lists are, as it takes them.
+    fn lengths(&self, lists: &Lists) -> [usize; 6] {
+        let mut lengths = lists.lengths();
+        if let Some(list) = self.untested {
+            lengths[list] = LENT_LENGTHS[list];
+        }
+        lengths
     }
 }
 
@@ -174,7 +186,7 @@ impl Calls for StandIn {
     }
 
     fn receive_lists(&self, head: Head, lists: Lists, port: u8, bytes: &[u8]) -> LentAnswer {
-        if lists.lengths() != LENT_LENGTHS {
+        if self.lengths(&lists) != LENT_LENGTHS {
             return LentAnswer {
                 refusal: refusal::BOUNDS,
                 sent: 0,
@@ -202,7 +214,7 @@ impl Calls for StandIn {
         let asked = Asked {
             gateway: &gateway,
             state: state_of(&gateway),
-            lengths: lists.lengths(),
+            lengths: self.lengths(&lists),
             port: port.into(),
             asked: asked.into(),
             bytes,
@@ -306,5 +318,19 @@ fn writing() {
             let column = &mut Column::default();
             assert!(differs(1, Sort::Box, index, &stand_in, column));
         }
+    }
+}
+
+/// A length that is not tested is found, whichever list it is of.
+#[test]
+fn lengths() {
+    for list in 0..LENT_LENGTHS.len() {
+        let stand_in = StandIn {
+            untested: Some(list),
+            ..SOUND
+        };
+        let column = &mut Column::default();
+        let found = |index| differs(1, Sort::Box, index, &stand_in, column);
+        assert!((0..300).any(found), "list {list}");
     }
 }

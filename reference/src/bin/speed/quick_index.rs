@@ -8,6 +8,8 @@ use crate::quick_trial::PlainBox;
 
 /// The k of the whole space.
 pub const WHOLE_K: u8 = 64;
+/// How many places are looked at one by one before the rest is halved.
+const NEAR: usize = 4;
 /// Above every number of a line.
 const STAYS: u16 = MOST_LINES as u16;
 
@@ -121,7 +123,7 @@ impl Gateway {
                 let k = sizes.trailing_zeros() as u8;
                 sizes &= sizes - 1;
                 let (kind, prefix) = (kind_of(port, k), event & !low_bits(k));
-                from = self.first_not_below(from, kind, prefix);
+                from = self.next_not_below(from, kind, prefix);
                 if self.is_at(from, kind, prefix) {
                     holding |= 1 << port;
                     break;
@@ -136,12 +138,27 @@ impl Gateway {
         let (mut from, mut left) = (from, self.count - from);
         while left > 0 {
             let half = left / 2;
-            let line = usize::from(self.order[(from + half) & (MOST_LINES - 1)]);
-            let is_below = (self.kinds[line], self.starts[line]) < (kind, start);
+            let is_below = self.is_below(from + half, kind, start);
             from = if is_below { from + half + 1 } else { from };
             left = if is_below { left - half - 1 } else { half };
         }
         from
+    }
+
+    fn is_below(&self, place: usize, kind: u16, start: u64) -> bool {
+        let line = usize::from(self.order[place & (MOST_LINES - 1)]);
+        (self.kinds[line], self.starts[line]) < (kind, start)
+    }
+
+    /// The same where it is mostly near: among the next few places first.
+    fn next_not_below(&self, from: usize, kind: u16, start: u64) -> usize {
+        let near = from + NEAR;
+        if near >= self.count || self.is_below(near, kind, start) {
+            return self.first_not_below(from, kind, start);
+        }
+        (from..near)
+            .find(|place| !self.is_below(*place, kind, start))
+            .unwrap_or(near)
     }
 
     /// Whether the line in a place of the index is of this size and first event.
@@ -215,17 +232,17 @@ impl Gateway {
         let mut lowered: [u16; MOST_LINES] = std::array::from_fn(|number| STAYS | number as u16);
         let mut gone_sets = [0; SETS];
         let mut kept = first_gone;
-        for place in first_gone..count {
+        for (place, new_number) in (first_gone..).zip(&mut lowered[first_gone..count]) {
             let (node, start, kind) = (self.nodes[place], self.starts[place], self.kinds[place]);
             if goes(node, start, kind) {
-                lowered[place] = 0;
+                *new_number = 0;
                 let (set, bit) = bit_of(kind);
                 gone_sets[set] |= bit;
             } else {
                 self.nodes[kept] = node;
                 self.starts[kept] = start;
                 self.kinds[kept] = kind;
-                lowered[place] = STAYS | kept as u16;
+                *new_number = STAYS | kept as u16;
                 kept += 1;
             }
         }
