@@ -13,6 +13,7 @@ pub mod board_calls;
 pub mod board_files;
 #[cfg(feature = "proved")]
 mod boards;
+pub mod both_boxes;
 pub mod boxes;
 pub mod calls;
 pub mod can_calls;
@@ -75,6 +76,8 @@ mod stand_in_files;
 mod stand_in_index;
 #[cfg(test)]
 mod stand_in_joins;
+#[cfg(test)]
+mod stand_in_lists;
 #[cfg(test)]
 mod stand_in_pairs;
 #[cfg(test)]

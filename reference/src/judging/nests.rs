@@ -3,7 +3,8 @@
 
 use crate::gateway::{Gateway, Line};
 
-use super::boxes::{self, Boxes, Calls};
+use super::both_boxes::{follow, Boxes};
+use super::boxes::Calls;
 use super::histories::{nested_history, Arrival};
 use super::laid_out::Layout;
 use super::moves::{announcement, with_event};
@@ -31,7 +32,7 @@ pub fn judge(dice: &mut Dice, witness: &mut Witness, calls: &impl Calls) {
     let boxes = Boxes::of_layout(dice, &layout);
     let mut arrivals = restarts_of(dice, &mut from, &restarting);
     arrivals.extend(nested_history(dice, from, world, MOST_MESSAGES));
-    boxes::follow(dice, witness, calls, boxes, &arrivals);
+    follow(dice, witness, calls, boxes, &arrivals);
 }
 
 /// An announcement near one of the lines, mostly of its port and node; at times, and where there is no line, of any block.
