@@ -5,6 +5,7 @@ mod reasons;
 mod records;
 
 ghost use mathlib.Core.Path.{_≡_};
+ghost use mathlib.Core.List.{[]};
 ghost use lib.ListN.{drop};
 ghost use Rattle.basics.specs.Refusals.{refused};
 ghost use Rattle.range.specs.Range.{blockOf};
@@ -13,8 +14,10 @@ ghost use Rattle.range.specs.Comparing.{comparison, comparisonTold};
 ghost use Rattle.text.specs.Text.{filledAt, endAt};
 ghost use Rattle.message.specs.Reading.{readTold};
 ghost use Rattle.message.specs.Writing.{writingTold, writeTold, outAfter};
-ghost use Rattle.gateway_rules.specs.Step.{start as startedBy, step as stepOf};
-ghost use Rattle.gateway.specs.State.{gateOf, entered, left};
+ghost use Rattle.gateway_rules.specs.Step.{start as startedBy};
+ghost use Rattle.index_rules.specs.Index.{indexOf};
+ghost use Rattle.index_rules.specs.Boxes.{boxStep};
+ghost use Rattle.gateway.specs.State.{boxOf, entered, left, indexIn, indexEntered, indexLeft};
 ghost use Rattle.gateway.specs.Answers.{seenIn, seenOf, refusalKeeps, seenLent, lentStep, lentRefusalKeeps};
 ghost use Rattle.replay.specs.Lines.{textOf as trialText};
 ghost use Rattle.rehearsal.specs.Lines.{textOf as boardText};
@@ -147,14 +150,14 @@ pub extern "C" fn hrislanoth_write(
 
 #[no_mangle]
 pub extern "C" fn hrislanoth_start(ports: u8, automatic: u64) -> Answer
-    ensures { λ a. ⌜ seenIn a ≡ seenOf (startedBy ports automatic) ⌝ }
+    ensures { λ a. ⌜ seenIn a ≡ seenOf (indexOf []) (startedBy ports automatic) ⌝ }
 {
     gateway::start(ports, automatic)
 }
 
 #[no_mangle]
 pub extern "C" fn hrislanoth_receive(gateway: Gateway, port: u8, bytes: &[u8]) -> Answer
-    ensures { λ a. ⌜ seenIn a ≡ seenOf (stepOf (gateOf gateway) port (now (bytes .entry))) ⌝ }
+    ensures { λ a. ⌜ seenIn a ≡ seenOf (boxOf gateway .index) (boxStep (boxOf gateway) port (now (bytes .entry))) ⌝ }
     ensures { λ a. ⌜ refusalKeeps gateway a ⌝ }
 {
     gateway::receive(gateway, port, bytes)
@@ -167,13 +170,15 @@ pub extern "C" fn hrislanoth_receive_lent(
     starts: &mut [u64],
     ports: &mut [u8],
     sizes: &mut [u8],
+    order: &mut [u8],
+    sets: &mut [u64],
     port: u8,
     bytes: &[u8],
 ) -> LentAnswer
-    ensures { λ a. ⌜ seenLent head a (left nodes starts ports sizes) ≡ seenOf (lentStep head (entered nodes starts ports sizes) port (now (bytes .entry))) ⌝ }
-    ensures { λ a. ⌜ lentRefusalKeeps head (entered nodes starts ports sizes) a (left nodes starts ports sizes) ⌝ }
+    ensures { λ a. ⌜ seenLent head a (left nodes starts ports sizes) (indexLeft order sets) ≡ seenOf (indexIn (head .count) (indexEntered order sets)) (lentStep head (entered nodes starts ports sizes) (indexEntered order sets) port (now (bytes .entry))) ⌝ }
+    ensures { λ a. ⌜ lentRefusalKeeps head (entered nodes starts ports sizes) (indexEntered order sets) a (left nodes starts ports sizes) (indexLeft order sets) ⌝ }
 {
-    gateway::receive_lent(head, nodes, starts, ports, sizes, port, bytes)
+    gateway::receive_lent(head, nodes, starts, ports, sizes, order, sets, port, bytes)
 }
 
 #[no_mangle]

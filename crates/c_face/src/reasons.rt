@@ -3,7 +3,7 @@ ghost use mathlib.Core.Path.{_≡_};
 ghost use mathlib.Core.List.{[], _∷_};
 ghost use Rattle.basics.specs.Refusals.{told};
 ghost use Rattle.gateway_rules.specs.Reasons.{reasonTold};
-ghost use Rattle.gateway.specs.State.{entered};
+ghost use Rattle.gateway.specs.State.{entered, indexEntered};
 ghost use Rattle.gateway.specs.Asking.{lentWhy};
 ghost use Rattle.c_face.specs.Flat.{toldReason};
 use gateway::Head;
@@ -28,13 +28,26 @@ pub extern "C" fn hrislanoth_why(
     starts: &[u64],
     ports: &[u8],
     sizes: &[u8],
+    order: &[u8],
+    sets: &[u64],
     port: u8,
     asked: u8,
     bytes: &[u8],
 ) -> FlatReason
-    ensures { λ r. ⌜ r ≡ toldReason (lentWhy head (entered nodes starts ports sizes) port asked (now (bytes .entry))) ⌝ }
+    ensures { λ r. ⌜ r ≡ toldReason (lentWhy head (entered nodes starts ports sizes) (indexEntered order sets) port asked (now (bytes .entry))) ⌝ }
 {
-    match gateway::why(head, nodes, starts, ports, sizes, port, asked, bytes) {
+    match gateway::why(
+        head,
+        nodes,
+        starts,
+        ports,
+        sizes,
+        order,
+        sets,
+        port,
+        asked,
+        bytes,
+    ) {
         WhyAnswer::Because(r) => because(r),
         WhyAnswer::Refused(refusal) => without_line(refusal, 0),
     }

@@ -25,11 +25,13 @@ use Rattle.gateway_rules.specs.declared.Reason.the-variants.{ArrivalPort}
 use Rattle.gateway_rules.proofs.Said.{report-kind}
 use Rattle.gateway_rules.proofs.Limits.{step-up-to}
 use Rattle.gateway_rules.proofs.Asking.{as-the-step, after-the-step, why-answered, reason-once}
-use Rattle.gateway.specs.State.{Lists, Whole, gateIn}
+use Rattle.index_rules.specs.Boxes.{Right}
+use Rattle.gateway.specs.State.{Lists, IndexLists, Whole, gateIn, boxIn}
 use Rattle.gateway.specs.declared.state.Head.{Head}
 use Rattle.gateway.specs.declared.asking.WhyAnswer.{WhyAnswer}
 use Rattle.gateway.specs.declared.asking.WhyAnswer.the-variants.{Because, Refused}
 use Rattle.gateway.specs.Asking.{answerTold, lentWhy}
+use Rattle.gateway.specs.Indexing.{WholeIndex}
 use Rattle.gateway.proofs.Lending.{whole-why}
 use Rattle.replay.specs.Lines.{ports}
 use Rattle.explanation.specs.Words.{legLines, refusedLine, eventIn, entryLines, acceptedReport}
@@ -133,7 +135,7 @@ module _ (g : Gate) (q : ℕ) (bytes : List ℕ) where
 
 -- ---- the code's question about a leg
 
-module _ (head : Head) (t : Lists) (q leg : ℕ) (bytes : List ℕ) (whole : Whole t) (four : head .ports ≡ ports) (h : leg < ports) where
+module _ (head : Head) (t : Lists) (q leg : ℕ) (bytes : List ℕ) (four : head .ports ≡ ports) (h : leg < ports) where
   there : leg < gateIn head t .ports
   unfolding gateIn
   there = omega (arith, four, h)
@@ -141,9 +143,9 @@ module _ (head : Head) (t : Lists) (q leg : ℕ) (bytes : List ℕ) (whole : Who
   pub asked-event : {e : ℕ} → e ≡ numberAt bytes 8 8 → acceptedReport (gateIn head t) q bytes ≡ true → e ≡ eventIn bytes
   asked-event = event-there (gateIn head t) q bytes leg there
 
-  module _ (a : WhyAnswer) (told : answerTold a ≡ lentWhy head t q leg bytes) where
+  module _ (x : IndexLists) (inside : Whole t × WholeIndex x × Right (boxIn head t x)) (a : WhyAnswer) (told : answerTold a ≡ lentWhy head t x q leg bytes) where
     answer : answerTold a ≡ whyTold (gateIn head t) q leg bytes
-    answer = told ∙ whole-why head t q bytes leg whole
+    answer = told ∙ whole-why head t x q bytes leg (inside .0) (inside .1) (inside .2)
 
     pub asked-reason : {r : Reason} → a ≡ Because r → acceptedReport (gateIn head t) q bytes ≡ true → r ≡ reasonFor (gateIn head t) q (eventIn bytes) leg
     asked-reason e f = same (sym e ∙ leg-reason (gateIn head t) q bytes leg there a answer f)

@@ -16,7 +16,8 @@ use Rattle.gateway_rules.specs.Step.{step}
 use Rattle.gateway_rules.specs.Reasons.{reasonFor}
 use Rattle.gateway.specs.declared.state.Head.{Head}
 use Rattle.gateway.specs.declared.LentAnswer.{LentAnswer}
-use Rattle.gateway.specs.State.{Lists, gateIn, headWith}
+use Rattle.index_rules.specs.Index.{Index}
+use Rattle.gateway.specs.State.{Lists, IndexLists, gateIn, headWith}
 use Rattle.gateway.specs.Answers.{Seen, seenLent, seenOf}
 use Rattle.replay.specs.Files.{entryCount, entryAt, portIn, lengthIn, bodyIn}
 use Rattle.replay.specs.Lines.{ports, stepAt}
@@ -94,18 +95,18 @@ lines-end i t g s = refl
 
 module _ {g₀ : Gate} {file : List ℕ} {first : Place} {text₀ : List ℕ} {i at : ℕ} {g : Gate} {told : SoFar} {text : List ℕ} (r : Running g₀ file first text₀ i at g told text) where
   -- The entry's lines are put in, and the box takes it.
-  pub running-next : (head : Head) (a : LentAnswer) (t : Lists) {told′ : SoFar} {text′ bytes : List ℕ} {size : ℕ} → i < entryCount file → size ≡ lengthIn file i
+  pub running-next : (head : Head) (a : LentAnswer) (t : Lists) (x : IndexLists) (before : Index) {told′ : SoFar} {text′ bytes : List ℕ} {size : ℕ} → i < entryCount file → size ≡ lengthIn file i
       → bytes ≡ take (at + size - at) (drop at file)
       → told′ .place ≡ endOf (told .place) (entryLines i g (portIn file i) bytes) text
       → text′ ≡ filled (told .place) (entryLines i g (portIn file i) bytes) text
       → told′ .reported ≡ (told .reported || acceptedReport g (portIn file i) bytes)
-      → seenLent head a t ≡ seenOf (step g (portIn file i) bytes)
+      → seenLent head a t x ≡ seenOf before (step g (portIn file i) bytes)
       → Running g₀ file first text₀ (i + 1) (at + size) (gateIn (headWith head (a .marks) (a .count)) t) told′ text′
-  running-next head a t {told′} h z b f₀ f₁ f₂ e =
+  running-next head a t x before {told′} h z b f₀ f₁ f₂ e =
       let left : entryCount file - i ≡ suc (entryCount file - (i + 1)) = omega (arith, h) in
       let body = b ∙ entry-body (r .entry) z in
       let lines = ap (entryLines i g (portIn file i)) body in
-      let gate = ap (λ (x : Seen). x .gate) e ∙ ap (λ (l : List ℕ). step g (portIn file i) l .next) body in
+      let gate = ap (λ (s : Seen). s .gate) e ∙ ap (λ (l : List ℕ). step g (portIn file i) l .next) body in
       let reported = f₂ ∙ ap (λ (l : List ℕ). told .reported || acceptedReport g (portIn file i) l) body in
       let all : linesFrom (entryCount file - i) i (told .reported) g file
       ≡ entryLines i g (portIn file i) (bodyIn file i) ++ linesFrom (entryCount file - (i + 1)) (i + 1) (told′ .reported) (gateIn (headWith head (a .marks) (a .count)) t) file

@@ -2,7 +2,7 @@
 use Prim.Native.Nat.{ℕ}
 use mathlib.Core.Path.{_≡_, sym, ap, _∙_}
 use mathlib.Core.Bool.{Bool, true, false, not}
-use mathlib.Core.List.{List}
+use mathlib.Core.List.{List, []}
 use borrow.Author.Tests.{not-true, not-false}
 use lib.ListN.{drop}
 use Rattle.range.specs.Range.{house}
@@ -11,6 +11,7 @@ use Rattle.text.specs.Text.{filledAt, endAt, badFile}
 use Rattle.text.proofs.Parts.{Puts, put-from}
 use Rattle.gateway_rules.specs.State.{Gate, startOf}
 use Rattle.gateway_rules.specs.Step.{start}
+use Rattle.index_rules.specs.Index.{indexOf}
 use Rattle.gateway.specs.State.{gateIn}
 use Rattle.gateway.specs.declared.Answer.{Answer}
 use Rattle.gateway.specs.Answers.{seenIn, seenOf}
@@ -19,7 +20,7 @@ use Rattle.replay.specs.Lines.{ports}
 use Rattle.replay.proofs.Walk.{started}
 use Rattle.explanation.specs.Words.{linesFrom, textOf}
 
-pub started-ports : (a : Answer) → seenIn a ≡ seenOf (start ports house) → a .gateway .head .ports ≡ ports
+pub started-ports : (a : Answer) → seenIn a ≡ seenOf (indexOf []) (start ports house) → a .gateway .head .ports ≡ ports
 unfolding gateIn
 started-ports a e = ap (λ (g : Gate). g .ports) (started a e)
 

@@ -5,7 +5,8 @@ ghost use Prim.Native.Nat.{_≤_};
 ghost use lib.ListN.{length};
 ghost use Rattle.range.specs.Range.{house};
 ghost use Rattle.text.specs.Text.{filled, endOf};
-ghost use Rattle.gateway.specs.State.{gateOf};
+ghost use Rattle.index_rules.specs.Boxes.{Right};
+ghost use Rattle.gateway.specs.State.{gateOf, boxOf};
 ghost use Rattle.gateway_rules.specs.State.{startOf};
 ghost use Rattle.replay.specs.Files.{entryCount, goodFile};
 ghost use Rattle.replay.specs.Lines.{ports};
@@ -29,9 +30,9 @@ pub(crate) fn run(file: &[u8], first: Place, text: &mut [u8]) -> Place
     from(gateway, file, first, text)
 }
 
-// The same from any state with 4 ports. An entry is asked about before the box takes it.
+// The same from any state with 4 ports whose index is right. An entry is asked about before the box takes it.
 fn from(gateway: Gateway, file: &[u8], first: Place, text: &mut [u8]) -> Place
-    requires { ⌜ gateway .head .ports ≡ ports ⌝ }
+    requires { ⌜ Right (boxOf gateway) × (gateway .head .ports ≡ ports) ⌝ }
     requires { ⌜ goodFile (now file) ≡ true ⌝ }
     requires { ⌜ first .at ≤ length (now text) ⌝ }
     ensures { λ r. ⌜ r ≡ endOf first (linesFrom (entryCount (now (file .entry))) 0 false (gateOf gateway) (now (file .entry))) (now (text .entry)) ⌝ }
@@ -42,6 +43,8 @@ fn from(gateway: Gateway, file: &[u8], first: Place, text: &mut [u8]) -> Place
     let mut starts = gateway.starts;
     let mut ports = gateway.ports;
     let mut sizes = gateway.sizes;
+    let mut order = gateway.order;
+    let mut sets = gateway.sets;
     let mut told = SoFar {
         place: first,
         reported: false,
@@ -61,6 +64,8 @@ fn from(gateway: Gateway, file: &[u8], first: Place, text: &mut [u8]) -> Place
             &starts,
             &ports,
             &sizes,
+            &order,
+            &sets,
             port,
             &file[at..end],
             told,
@@ -72,6 +77,8 @@ fn from(gateway: Gateway, file: &[u8], first: Place, text: &mut [u8]) -> Place
             &mut starts,
             &mut ports,
             &mut sizes,
+            &mut order,
+            &mut sets,
             port,
             &file[at..end],
         );

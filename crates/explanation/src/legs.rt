@@ -5,7 +5,9 @@ ghost use mathlib.Core.List.{[]};
 ghost use Prim.Native.Nat.{_≤_};
 ghost use lib.ListN.{length};
 ghost use Rattle.text.specs.Text.{filled, endOf};
-ghost use Rattle.gateway.specs.State.{Whole, gateIn, held, entered};
+ghost use Rattle.index_rules.specs.Boxes.{Right};
+ghost use Rattle.gateway.specs.State.{Whole, gateIn, boxIn, held, entered, indexHeld};
+ghost use Rattle.gateway.specs.Indexing.{WholeIndex};
 ghost use Rattle.replay.specs.Lines.{ports as legCount};
 ghost use Rattle.explanation.specs.Words.{eventIn, legLines, entryLines, acceptedReport, noReport};
 use crate::lines;
@@ -28,19 +30,32 @@ pub(crate) fn put(
     starts: &[u64],
     ports: &[u8],
     sizes: &[u8],
+    order: &[u8],
+    sets: &[u64],
     port: u8,
     bytes: &[u8],
     before: SoFar,
     text: &mut [u8],
 ) -> SoFar
-    requires { ⌜ Whole (held nodes starts ports sizes) × (head .ports ≡ legCount) × (before .place .at ≤ length (now text)) ⌝ }
+    requires { ⌜ Whole (held nodes starts ports sizes) × WholeIndex (indexHeld order sets) × Right (boxIn head (held nodes starts ports sizes) (indexHeld order sets)) ⌝ }
+    requires { ⌜ (head .ports ≡ legCount) × (before .place .at ≤ length (now text)) ⌝ }
     ensures { λ r. ⌜ r .place ≡ endOf (before .place) (entryLines i (gateIn head (entered nodes starts ports sizes)) port (now (bytes .entry))) (now (text .entry)) ⌝ }
     ensures { λ _. ⌜ now (text .exit) ≡ filled (before .place) (entryLines i (gateIn head (entered nodes starts ports sizes)) port (now (bytes .entry))) (now (text .entry)) ⌝ }
     ensures { λ r. ⌜ r .reported ≡ (before .reported || acceptedReport (gateIn head (entered nodes starts ports sizes)) port (now (bytes .entry))) ⌝ }
 {
     let place = before.place;
-    let WhyAnswer::Refused(n) = gateway::why(head, nodes, starts, ports, sizes, port, 0, bytes)
-    else {
+    let WhyAnswer::Refused(n) = gateway::why(
+        head,
+        nodes,
+        starts,
+        ports,
+        sizes,
+        order,
+        sets,
+        port,
+        0,
+        bytes,
+    ) else {
         let next = put_legs(
             i,
             head,
@@ -48,6 +63,8 @@ pub(crate) fn put(
             starts,
             ports,
             sizes,
+            order,
+            sets,
             port,
             bytes,
             place,
@@ -76,12 +93,15 @@ fn put_legs(
     starts: &[u64],
     ports: &[u8],
     sizes: &[u8],
+    order: &[u8],
+    sets: &[u64],
     port: u8,
     bytes: &[u8],
     at: Place,
     text: &mut [u8],
 ) -> Place
-    requires { ⌜ Whole (held nodes starts ports sizes) × (head .ports ≡ legCount) × (at .at ≤ length (now text)) ⌝ }
+    requires { ⌜ Whole (held nodes starts ports sizes) × WholeIndex (indexHeld order sets) × Right (boxIn head (held nodes starts ports sizes) (indexHeld order sets)) ⌝ }
+    requires { ⌜ (head .ports ≡ legCount) × (at .at ≤ length (now text)) ⌝ }
     requires { ⌜ acceptedReport (gateIn head (held nodes starts ports sizes)) port (now bytes) ≡ true ⌝ }
     ensures { λ r. ⌜ r ≡ endOf at (legLines legCount 0 i (gateIn head (entered nodes starts ports sizes)) port (eventIn (now (bytes .entry)))) (now (text .entry)) ⌝ }
     ensures { λ _. ⌜ now (text .exit) ≡ filled at (legLines legCount 0 i (gateIn head (entered nodes starts ports sizes)) port (eventIn (now (bytes .entry)))) (now (text .entry)) ⌝ }
@@ -96,6 +116,8 @@ fn put_legs(
             starts,
             ports,
             sizes,
+            order,
+            sets,
             port,
             leg,
             bytes,

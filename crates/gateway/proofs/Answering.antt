@@ -1,7 +1,7 @@
 -- What the box is to answer when it is asked why, once the code's tests are known.
 use Prim.Native.Nat.{ℕ, _/_, _%_, _^_, _<_, _≤_}
-use mathlib.Core.Path.{_≡_, refl, sym, ap, _∙_}
-use mathlib.Core.Bool.{Bool, true, false, cond, _||_, or-true}
+use mathlib.Core.Path.{_≡_, refl, ap}
+use mathlib.Core.Bool.{true, false, _||_, or-true}
 use mathlib.Core.List.{List, [], _∷_}
 use borrow.Author.Tests.{eq-eqb, ne-eqb, le-leb, lt-leb}
 use native.Mathlib.Omega.{arith}
@@ -10,20 +10,19 @@ use lib.ListN.{length}
 use denote.Enum.Declared.{tagOf, declared}
 use types.Run.{OneOf, miss}
 use Rattle.range.specs.Range.{inBlock}
-use Rattle.basics.specs.Refusals.{Told, refused}
+use Rattle.basics.specs.Refusals.{Told}
 use Rattle.message.proofs.Saying.{enum as sayings}
 use Rattle.message.specs.declared.Saying.{Saying}
 use Rattle.message.specs.declared.Saying.the-variants.{Report, Announcement, Restart, Inquiry, InquiryForAll, Learn, Nothing}
 use Rattle.gateway_rules.specs.declared.Reason.{Reason}
 use Rattle.gateway_rules.specs.declared.Reason.the-variants.{ArrivalPort, AutomaticEvent, OpenPort}
 use Rattle.basics.specs.Lists.{firstOr}
-use Rattle.gateway_rules.specs.Reasons.{Numbered, reasonTold, reasonFor, byLine, firstHolding, eventOf, whyTold}
+use Rattle.gateway_rules.specs.Reasons.{Numbered, reasonTold, reasonFor, byLine, firstHolding, eventOf}
 use Rattle.gateway.specs.declared.state.Head.{Head}
 use Rattle.gateway.specs.State.{Lists, linesIn, gateIn}
-use Rattle.gateway.specs.Answers.{badLists}
 use Rattle.gateway.specs.declared.asking.WhyAnswer.{WhyAnswer}
 use Rattle.gateway.specs.declared.asking.WhyAnswer.the-variants.{Because, Refused}
-use Rattle.gateway.specs.Asking.{answerTold, lentWhy}
+use Rattle.gateway.specs.Asking.{answerTold}
 use Rattle.gateway_rules.proofs.Asking.{reason-once}
 
 -- ---- the reason
@@ -66,16 +65,6 @@ no-event (Inquiry role e) k = refl
 no-event (InquiryForAll destination) k = refl
 no-event (Learn e) k = refl
 no-event Nothing k = refl
-
-module _ (head : Head) (t : Lists) (q p : ℕ) (bytes : List ℕ) where
-  abbrev by-lists : Bool → Told (List Numbered)
-  by-lists b = cond b (refused 7 []) (whyTold (gateIn head t) q p bytes)
-
-  pub lists-refused : badLists t ≡ true → refused 7 [] ≡ lentWhy head t q p bytes
-  lists-refused w = sym (ap by-lists w)
-
-  pub told-whole : badLists t ≡ false → {answer : Told (List Numbered)} → whyTold (gateIn head t) q p bytes ≡ answer → answer ≡ lentWhy head t q p bytes
-  told-whole w e = sym e ∙ sym (ap by-lists w)
 
 -- Either port is not there, or both are.
 module _ (head : Head) (t : Lists) (q p : ℕ) where

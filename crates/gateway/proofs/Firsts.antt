@@ -2,7 +2,7 @@
 use Prim.Native.Nat.{ℕ, zero, suc, _+_, _<_}
 use mathlib.Core.Path.{_≡_, refl, sym, ap, _∙_}
 use mathlib.Core.Logic.{⊎-elim}
-use mathlib.Core.Bool.{Bool, true, false, cond, _||_, or-false, or-true}
+use mathlib.Core.Bool.{Bool, true, false, cond, _||_, or-false, or-true, true≢false}
 use mathlib.Core.List.{[], _∷_, _++_, append-nil}
 use native.Mathlib.Nat.{eq-or-lt-of-le, le-of-suc-le-suc, not-suc-le-zero}
 use native.Mathlib.Numerals.{add-one}
@@ -56,3 +56,10 @@ module _ {A : Type 0} where
       (λ e. let here : test (at n) ≡ true = sym (ap (λ (k : ℕ). test (at k)) e) ∙ t in rw here (or-true (any test (each n at))))
       (λ k. let here = any-at test n at i k t in rw here)
       (eq-or-lt-of-le (le-of-suc-le-suc l))
+
+  pub none-at : (test : A → Bool) (n : ℕ) (at : ℕ → A) (i : ℕ) → i < n → any test (each n at) ≡ false → test (at i) ≡ false
+  none-at test n at i l none = go (test (at i)) refl
+    where
+      go : (y : Bool) → test (at i) ≡ y → test (at i) ≡ false
+      go true e = absurd (true≢false (sym (any-at test n at i l e) ∙ none))
+      go false e = e

@@ -7,7 +7,7 @@ use native.Mathlib.Omega.{arith}
 use borrow.Author.Tests.{leb-false, ltb-false, not-false}
 use lib.Dec.{leb, ltb}
 use Rattle.range.specs.Range.{isBlock, hasNumber}
-use Rattle.range.proofs.Laws.{number-parts}
+use Rattle.range.proofs.Laws.{number-parts, block-parts}
 use Rattle.message.specs.Messages.{badNode}
 use Rattle.basics.specs.Lists.{any}
 use Rattle.basics.specs.Sets.{inSet}
@@ -18,6 +18,8 @@ use Rattle.gateway_rules.specs.State.{badPorts, badLine, strayMark, badBesideLi
 use Rattle.gateway_rules.proofs.Sending.{two-to-eight}
 use Rattle.gateway.specs.declared.state.Head.{Head}
 use Rattle.gateway.specs.State.{Lists, lineAt, linesIn, gateIn, badHead, noBlock}
+use Rattle.gateway.specs.Indexing.{Sized, Blocks}
+use Rattle.gateway.proofs.Firsts.{none-at}
 
 -- ---- a line
 
@@ -28,7 +30,7 @@ line-parts ports l e =
     (leb-false ports (l .port) (h .0), k .0, not-false (isBlock (l .block)) (k .1))
 
 -- A line that is good for fewer ports is good for 8.
-pub good-line : (ports : ℕ) (l : Line) → ports ≤ 8 → badLine ports l ≡ false → (l .port < 8) × (isBlock (l .block) ≡ true)
+good-line : (ports : ℕ) (l : Line) → ports ≤ 8 → badLine ports l ≡ false → (l .port < 8) × (isBlock (l .block) ≡ true)
 good-line ports l b e = let h = line-parts ports l e in (omega (arith, h .0, b), h .2)
 
 -- ---- the state
@@ -74,3 +76,17 @@ module _ (head : Head) (o : badHead head ≡ false) where
 
   pub automatic-block : isBlock (head .automatic) ≡ true
   automatic-block = number-parts (head .automatic) (not-false (hasNumber (head .automatic)) (parts .2)) .1
+
+-- ---- for the index
+
+-- Every line is at one of eight ports, of a size of at most 64, and has a block.
+module _ (head : Head) (t : Lists) (o : outOfBounds (gateIn head t) ≡ false) where
+  line-good : (i : ℕ) → i < head .count → (lineAt t i .port < 8) × (isBlock (lineAt t i .block) ≡ true)
+  line-good i l =
+      good-line (head .ports) (lineAt t i) (few-ports head (head-good head t o)) (none-at (badLine (head .ports)) (head .count) (lineAt t) i l (in-bounds head t o .1))
+
+  pub lines-sized : Sized (head .count) (t .ports) (t .sizes)
+  lines-sized = record { port = λ i l. line-good i l .0; size = λ i l. block-parts (lineAt t i .block) (line-good i l .1) .0 }
+
+  pub lines-blocks : Blocks (head .count) (t .starts) (t .sizes)
+  lines-blocks = record { block = λ i l. line-good i l .1 }

@@ -1,17 +1,33 @@
 pub mod Answering
 mod Bits
+mod Carrying
 mod Columns
-mod Going
+mod Entering
+mod Falling
+mod Finding
 mod Firsts
-mod Held
+mod Fitting
+mod Following
+mod Going
+mod Halving
 mod InBounds
 mod Kept
-mod Lookup
+mod Keys
+mod Leaving
 pub mod Lending
+mod Lowering
 mod Marks
 mod Naming
+mod Occurring
 pub mod PastTheCount
 mod Places
+mod PortByPort
+mod SameNumbers
 mod Sends
+mod SizePut
+mod Sizing
+mod Skips
+mod Stands
 mod Stepping
-mod Wanting
+mod Testing
+mod Wanted

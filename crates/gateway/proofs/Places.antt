@@ -1,7 +1,7 @@
 -- The lines at the first places of a table: what is known of the one at a place, and one put in.
 use Prim.Native.Nat.{ℕ, _+_, _<_}
-use mathlib.Core.Path.{_≡_, refl, sym, ap, ap₂, _∙_}
-use mathlib.Core.Bool.{Bool, true, false, true≢false}
+use mathlib.Core.Path.{_≡_, sym, ap, ap₂, _∙_}
+use mathlib.Core.Bool.{Bool, true, false}
 use mathlib.Core.List.{List, [], _∷_, _++_}
 use native.Mathlib.Omega.{arith}
 use borrow.Author.Tests.{not-false}
@@ -12,15 +12,11 @@ use Rattle.gateway_rules.specs.declared.Line.{Line}
 use Rattle.basics.specs.Lists.{any}
 use Rattle.gateway.specs.State.{Lists, lineAt, Whole, linesIn, putAt, noBlock}
 use Rattle.basics.proofs.Each.{each-same}
-use Rattle.gateway.proofs.Firsts.{one-more, any-at}
+use Rattle.gateway.proofs.Firsts.{one-more, none-at}
 
 pub block-at : (n : ℕ) (t : Lists) (i : ℕ) → any noBlock (linesIn n t) ≡ false → i < n → {l : Line} → l ≡ lineAt t i → isBlock (l .block) ≡ true
 block-at n t i none b {l} here =
-    not-false (isBlock (l .block)) (ap noBlock here ∙ go (noBlock (lineAt t i)) refl)
-  where
-    go : (y : Bool) → noBlock (lineAt t i) ≡ y → noBlock (lineAt t i) ≡ false
-    go true e = absurd (true≢false (sym (any-at noBlock n (lineAt t) i b e) ∙ none))
-    go false e = e
+    not-false (isBlock (l .block)) (ap noBlock here ∙ none-at noBlock n (lineAt t) i b none)
 
 -- What the code's test of a line that it took out tells of the place.
 pub line-tells : (test : Line → Bool) (place : Line) {l : Line} {told is : Bool} → l ≡ place → told ≡ test l → told ≡ is → test place ≡ is
@@ -28,7 +24,7 @@ line-tells test place taken tells it = sym (ap test taken) ∙ sym tells ∙ it
 
 -- ---- a place written
 
-put-there : (t : Lists) (i : ℕ) (l : Line) → Whole t → i < 256 → lineAt (putAt i l t) i ≡ l
+pub put-there : (t : Lists) (i : ℕ) (l : Line) → Whole t → i < 256 → lineAt (putAt i l t) i ≡ l
 put-there t i l w b = λ z. record {
   port = getD-set-same (t .ports) i (l .port) 0 (omega (arith, b, w .2)) z;
   node = getD-set-same (t .nodes) i (l .node) 0 (omega (arith, b, w .0)) z;

@@ -1,4 +1,4 @@
--- The rules' state from the code's: the lines stand in four lists, line i at place i of each.
+-- The rules' state from the code's: the lines stand in four lists, line i at place i of each, and the index in two more.
 use Prim.Native.Nat.{ℕ, _<_}
 use mathlib.Core.Path.{_≡_}
 use mathlib.Core.Bool.{Bool, not}
@@ -12,6 +12,8 @@ use Rattle.basics.specs.Lists.{each}
 use Rattle.basics.specs.Sets.{inSet}
 use Rattle.gateway_rules.specs.declared.Line.{Line}
 use Rattle.gateway_rules.specs.State.{Gate, full, badBesideLines}
+use Rattle.index_rules.specs.Index.{Index}
+use Rattle.index_rules.specs.Boxes.{Box}
 use Rattle.gateway.specs.declared.state.Head.{Head}
 use Rattle.gateway.specs.declared.state.Gateway.{Gateway}
 use Rattle.gateway.specs.declared.step.Left.{Left}
@@ -49,6 +51,27 @@ listsOf g = lists (g .nodes) (g .starts) (g .ports) (g .sizes)
 abbrev pub gateOf : Gateway → Gate
 gateOf g = gateIn (g .head) (listsOf g)
 
+-- The lists that the index stands in: the lines' numbers in order, and the sets of sizes (document 02, W6).
+pub record IndexLists : Type 0 where
+  pub order : List ℕ
+  pub sets : List ℕ
+
+abbrev pub indexLists : List ℕ → List ℕ → IndexLists
+indexLists order sets = record { order = order; sets = sets }
+
+-- The index of n lines: as many numbers, and all the sets.
+abbrev pub indexIn : ℕ → IndexLists → Index
+indexIn n x = record { order = firstNumbers n (x .order); sets = x .sets }
+
+abbrev pub indexListsOf : Gateway → IndexLists
+indexListsOf g = indexLists (g .order) (g .sets)
+
+abbrev pub boxIn : Head → Lists → IndexLists → Box
+boxIn h t x = record { gate = gateIn h t; index = indexIn (h .count) x }
+
+abbrev pub boxOf : Gateway → Box
+boxOf g = boxIn (g .head) (listsOf g) (indexListsOf g)
+
 -- The head with other open marks and another line count: the rest of it never changes.
 abbrev pub headWith : Head → ℕ → ℕ → Head
 headWith h marks count = record { ports = h .ports; marks = marks; automatic = h .automatic; count = count }
@@ -79,18 +102,21 @@ noBlock l = notBlock (l .block)
 -- ---- the same state
 
 -- Heads and lists that differ only past the count (document 01, "Gateway": "Places past the line count aren't part of the state").
-pub record SameToTheCount (h : Head) (t : Lists) (k : Head) (u : Lists) : Type 0 where
+pub record SameToTheCount (h : Head) (t : Lists) (x : IndexLists) (k : Head) (u : Lists) (y : IndexLists) : Type 0 where
   pub ports : h .ports ≡ k .ports
   pub automatic : h .automatic ≡ k .automatic
   pub marks : h .marks ≡ k .marks
   pub count : h .count ≡ k .count
   pub places : (i : ℕ) → i < h .count → lineAt t i ≡ lineAt u i
+  pub numbers : (i : ℕ) → i < h .count → getD (x .order) i 0 ≡ getD (y .order) i 0
+  pub sets : x .sets ≡ y .sets
 
-pub record SameLengths (t u : Lists) : Type 0 where
+pub record SameLengths (t : Lists) (x : IndexLists) (u : Lists) (y : IndexLists) : Type 0 where
   pub nodes : length (t .nodes) ≡ length (u .nodes)
   pub starts : length (t .starts) ≡ length (u .starts)
   pub ports : length (t .ports) ≡ length (u .ports)
   pub sizes : length (t .sizes) ≡ length (u .sizes)
+  pub order : length (x .order) ≡ length (y .order)
 
 -- ---- lent
 
@@ -106,3 +132,13 @@ entered nodes starts ports sizes = held (nodes .entry) (starts .entry) (ports .e
 
 abbrev pub left : Lent → Lent → Lent → Lent → Lists
 left nodes starts ports sizes = held (nodes .exit) (starts .exit) (ports .exit) (sizes .exit)
+
+-- The same of the lists of the index.
+abbrev pub indexHeld : RefT (List ℕ) → RefT (List ℕ) → IndexLists
+indexHeld order sets = indexLists (order .now) (sets .now)
+
+abbrev pub indexEntered : Lent → Lent → IndexLists
+indexEntered order sets = indexHeld (order .entry) (sets .entry)
+
+abbrev pub indexLeft : Lent → Lent → IndexLists
+indexLeft order sets = indexHeld (order .exit) (sets .exit)

@@ -5,11 +5,10 @@ ghost use Prim.Native.Nat.{_≤_, _<_};
 ghost use Rattle.basics.specs.Lists.{any};
 ghost use Rattle.gateway_rules.specs.State.{outOfBounds};
 ghost use Rattle.gateway_rules.specs.Reasons.{reasonFor, byLine, firstHolding};
-ghost use Rattle.gateway.specs.State.{Whole, linesIn, gateIn, noBlock, held, entered};
+ghost use Rattle.gateway.specs.State.{Whole, linesIn, gateIn, noBlock, held, entered, indexEntered};
 ghost use Rattle.gateway.specs.Asking.{answerTold, lentWhy};
 use crate::Head;
 use crate::bounds;
-use crate::lent;
 use crate::lines;
 use gateway_rules::Holder;
 use gateway_rules::Reason;
@@ -29,19 +28,15 @@ pub fn why(
     starts: &[u64],
     ports: &[u8],
     sizes: &[u8],
+    order: &[u8],
+    sets: &[u64],
     port: u8,
     asked: u8,
     bytes: &[u8],
 ) -> WhyAnswer
-    ensures { λ a. ⌜ answerTold a ≡ lentWhy head (entered nodes starts ports sizes) port asked (now (bytes .entry)) ⌝ }
+    ensures { λ a. ⌜ answerTold a ≡ lentWhy head (entered nodes starts ports sizes) (indexEntered order sets) port asked (now (bytes .entry)) ⌝ }
 {
-    if lent::bad_lengths(nodes.len(), starts.len(), ports.len(), sizes.len()) {
-        return WhyAnswer::Refused(7);
-    }
-    if bounds::bad_head(head) {
-        return WhyAnswer::Refused(7);
-    }
-    if bounds::bad_lines(head.count, nodes, starts, ports, sizes, head.ports) {
+    if bounds::bad_state(head, nodes, starts, ports, sizes, order, sets) {
         return WhyAnswer::Refused(7);
     }
     if head.ports <= port {

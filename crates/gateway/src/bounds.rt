@@ -9,16 +9,68 @@ ghost use Rattle.message.specs.Messages.{badNode};
 ghost use Rattle.basics.specs.Lists.{any};
 ghost use Rattle.basics.specs.Sets.{inSet};
 ghost use Rattle.gateway_rules.specs.State.{badPorts, badLine, strayMark};
-ghost use Rattle.gateway.specs.State.{Whole, badHead, linesIn, firstNumbers, firstBlocks, notBlock, held, entered};
+ghost use Rattle.gateway.specs.State.{Whole, badHead, linesIn, firstNumbers, firstBlocks, notBlock, held, entered, indexEntered};
+ghost use Rattle.gateway.specs.Answers.{badLengths, badIndexLengths, outside};
 use crate::Head;
-use gateway_rules::Line;
+use crate::index;
 use range::Block;
 
 // Every Node ID is below it.
 const PAST_NODE_IDS: u64 = 0x1_0000_0000_0000;
 
+// All that is refusal 7: the lengths of the lists, the head, the lines, the index.
+pub(crate) fn bad_state(
+    head: Head,
+    nodes: &[u64],
+    starts: &[u64],
+    ports: &[u8],
+    sizes: &[u8],
+    order: &[u8],
+    sets: &[u64],
+) -> bool
+    ensures { λ yes. ⌜ yes ≡ outside head (entered nodes starts ports sizes) (indexEntered order sets) ⌝ }
+{
+    if bad_lengths(nodes.len(), starts.len(), ports.len(), sizes.len()) {
+        return true;
+    }
+    if bad_index_lengths(order.len(), sets.len()) {
+        return true;
+    }
+    if bad_head(head) {
+        return true;
+    }
+    if bad_lines(head.count, nodes, starts, ports, sizes, head.ports) {
+        return true;
+    }
+    index::astray(head.count, starts, ports, sizes, order, sets)
+}
+
+fn bad_lengths(nodes: usize, starts: usize, ports: usize, sizes: usize) -> bool
+    ensures { λ yes. ⌜ yes ≡ badLengths nodes starts ports sizes ⌝ }
+{
+    if nodes != 256 {
+        return true;
+    }
+    if starts != 256 {
+        return true;
+    }
+    if ports != 256 {
+        return true;
+    }
+    sizes != 256
+}
+
+fn bad_index_lengths(order: usize, sets: usize) -> bool
+    ensures { λ yes. ⌜ yes ≡ badIndexLengths order sets ⌝ }
+{
+    if order != 256 {
+        return true;
+    }
+    sets != 9
+}
+
 // All but the lines.
-pub(crate) fn bad_head(head: Head) -> bool
+fn bad_head(head: Head) -> bool
     ensures { λ yes. ⌜ yes ≡ badHead head ⌝ }
 {
     let automatic = head.automatic;
@@ -70,7 +122,7 @@ fn bad_automatic(b: Block) -> bool
     !range::is_block(b)
 }
 
-pub(crate) fn bad_lines(
+fn bad_lines(
     count: usize,
     nodes: &[u64],
     starts: &[u64],
@@ -149,17 +201,4 @@ fn some_no_block(count: usize, starts: &[u64], sizes: &[u8]) -> bool
         i += 1;
     }
     false
-}
-
-pub(crate) fn bad_line(l: Line, ports: u8) -> bool
-    ensures { λ yes. ⌜ yes ≡ badLine ports l ⌝ }
-{
-    let block = l.block;
-    if ports <= l.port {
-        return true;
-    }
-    if message::bad_node(l.node) {
-        return true;
-    }
-    !range::is_block(block)
 }

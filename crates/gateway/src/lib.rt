@@ -1,17 +1,25 @@
 // The box: a state goes in with a port and bytes, and comes back with where they go.
 mod asking;
 mod bounds;
+mod index;
 mod lent;
 mod lines;
-mod pass;
+mod lookup;
+mod order;
 mod port_sets;
+mod size_sets;
 mod state;
 mod step;
+mod table;
+mod wanting;
 
 ghost use mathlib.Core.Path.{_≡_};
+ghost use mathlib.Core.List.{[]};
 ghost use Rattle.gateway_rules.specs.State.{startOf};
-ghost use Rattle.gateway_rules.specs.Step.{start as startedBy, step as stepOf};
-ghost use Rattle.gateway.specs.State.{gateOf};
+ghost use Rattle.gateway_rules.specs.Step.{start as startedBy};
+ghost use Rattle.index_rules.specs.Index.{indexOf};
+ghost use Rattle.index_rules.specs.Boxes.{boxStep};
+ghost use Rattle.gateway.specs.State.{boxOf};
 ghost use Rattle.gateway.specs.Answers.{seenIn, seenOf, refusalKeeps};
 pub use asking::WhyAnswer;
 pub use asking::why;
@@ -36,9 +44,9 @@ pub struct LentAnswer {
     pub count: usize,
 }
 
-// A gateway without lines and open marks, with the block of the number given.
+// A gateway without lines and open marks, with the block of the number given and the index of no lines.
 pub fn start(ports: u8, r: u64) -> Answer
-    ensures { λ a. ⌜ seenIn a ≡ seenOf (startedBy ports r) ⌝ }
+    ensures { λ a. ⌜ seenIn a ≡ seenOf (indexOf []) (startedBy ports r) ⌝ }
 {
     if bounds::bad_ports(ports) {
         return Answer {
@@ -55,7 +63,7 @@ pub fn start(ports: u8, r: u64) -> Answer
 }
 
 fn empty(ports: u8, r: u64) -> Gateway
-    ensures { λ g. ⌜ gateOf g ≡ startOf ports r ⌝ }
+    ensures { λ g. ⌜ boxOf g ≡ record { gate = startOf ports r; index = indexOf [] } ⌝ }
 {
     Gateway {
         head: Head {
@@ -68,12 +76,14 @@ fn empty(ports: u8, r: u64) -> Gateway
         starts: [0; 256],
         ports: [0; 256],
         sizes: [0; 256],
+        order: [0; 256],
+        sets: [0; 9],
     }
 }
 
 // A message at a port. The state by value: its lists are lent, and given back in the answer.
 pub fn receive(gateway: Gateway, port: u8, bytes: &[u8]) -> Answer
-    ensures { λ a. ⌜ seenIn a ≡ seenOf (stepOf (gateOf gateway) port (now (bytes .entry))) ⌝ }
+    ensures { λ a. ⌜ seenIn a ≡ seenOf (boxOf gateway .index) (boxStep (boxOf gateway) port (now (bytes .entry))) ⌝ }
     ensures { λ a. ⌜ refusalKeeps gateway a ⌝ }
 {
     let head = gateway.head;
@@ -82,12 +92,16 @@ pub fn receive(gateway: Gateway, port: u8, bytes: &[u8]) -> Answer
     let mut starts = gateway.starts;
     let mut ports = gateway.ports;
     let mut sizes = gateway.sizes;
+    let mut order = gateway.order;
+    let mut sets = gateway.sets;
     let a = receive_lent(
         head,
         &mut nodes,
         &mut starts,
         &mut ports,
         &mut sizes,
+        &mut order,
+        &mut sets,
         port,
         bytes,
     );
@@ -105,6 +119,8 @@ pub fn receive(gateway: Gateway, port: u8, bytes: &[u8]) -> Answer
             starts,
             ports,
             sizes,
+            order,
+            sets,
         },
     }
 }

@@ -4,10 +4,13 @@ ghost use mathlib.Core.Logic.{_⊎_};
 ghost use mathlib.Core.Bool.{true, false};
 ghost use mathlib.Core.List.{[], _∷_};
 ghost use Prim.Native.Nat.{_≤_, _<_};
+ghost use lib.ListN.{length};
+ghost use Rattle.index_rules.specs.Agreeing.{Falls};
 ghost use Rattle.range.specs.Range.{isBlock};
-ghost use Rattle.gateway_rules.specs.Step.{within as withinOf, heldBy, ofNode};
+ghost use Rattle.gateway_rules.specs.Step.{within as withinOf};
 ghost use Rattle.basics.specs.Lists.{any, without};
 ghost use Rattle.gateway.specs.Answers.{standsAs, goesBy, Comparable};
+ghost use Rattle.gateway.specs.Indexing.{Level};
 ghost use Rattle.gateway.specs.State.{Whole, lineAt, linesIn, putAt, noBlock, held, entered, left};
 use gateway_rules::Line;
 use range::Block;
@@ -116,70 +119,45 @@ fn within(a: Line, b: Line) -> bool
     }
 }
 
+// In place of a fall: no number falls so far.
+const GONE: u16 = 256;
+
 // Which lines are taken out: those of a node, or those that a line holds.
-enum Gone {
+pub(crate) enum Gone {
     OfNode(u64),
     HeldBy(Line),
 }
 
-// Takes a node's lines out, and answers how many stay.
-pub(crate) fn without_node(
+// One pass, the rest keeping their order: it goes on where the first that goes was found, and writes each that stays behind it once, and by how much its number falls.
+pub(crate) fn take_out(
     count: usize,
     nodes: &mut [u64],
     starts: &mut [u64],
     ports: &mut [u8],
     sizes: &mut [u8],
-    node: u64,
-) -> usize
-    requires { ⌜ count ≤ 256 ⌝ }
-    requires { ⌜ Whole (held nodes starts ports sizes) ⌝ }
-    ensures { λ kept. ⌜ linesIn kept (left nodes starts ports sizes) ≡ without (ofNode node) (linesIn count (entered nodes starts ports sizes)) ⌝ }
-{
-    take_out(count, nodes, starts, ports, sizes, Gone::OfNode(node))
-}
-
-// Takes the lines out that one holds, and answers how many stay.
-pub(crate) fn without_held(
-    count: usize,
-    nodes: &mut [u64],
-    starts: &mut [u64],
-    ports: &mut [u8],
-    sizes: &mut [u8],
-    l: Line,
-) -> usize
-    requires { ⌜ count ≤ 256 ⌝ }
-    requires { ⌜ Whole (held nodes starts ports sizes) ⌝ }
-    requires { ⌜ isBlock (l .block) ≡ true ⌝ }
-    requires { ⌜ any noBlock (linesIn count (held nodes starts ports sizes)) ≡ false ⌝ }
-    ensures { λ kept. ⌜ linesIn kept (left nodes starts ports sizes) ≡ without (heldBy l) (linesIn count (entered nodes starts ports sizes)) ⌝ }
-{
-    take_out(count, nodes, starts, ports, sizes, Gone::HeldBy(l))
-}
-
-// One pass, the rest keeping their order: it goes on where the first that goes was found, and writes each that stays behind it once.
-fn take_out(
-    count: usize,
-    nodes: &mut [u64],
-    starts: &mut [u64],
-    ports: &mut [u8],
-    sizes: &mut [u8],
+    falls: &mut [u16],
     gone: Gone,
 ) -> usize
     requires { ⌜ count ≤ 256 ⌝ }
     requires { ⌜ Whole (held nodes starts ports sizes) ⌝ }
+    requires { ⌜ (length (now falls) ≡ 256) × Level (now falls) ⌝ }
     requires { ⌜ Comparable gone (linesIn count (held nodes starts ports sizes)) ⌝ }
     ensures { λ kept. ⌜ linesIn kept (left nodes starts ports sizes) ≡ without (goesBy gone) (linesIn count (entered nodes starts ports sizes)) ⌝ }
+    ensures { λ _. ⌜ Falls (λ p. goesBy gone (lineAt (entered nodes starts ports sizes) p)) count (now (falls .exit)) ⌝ }
 {
     let first = before_gone(count, nodes, starts, ports, sizes, gone);
     let mut i = first;
     let mut j = first;
     while i < count {
-        let l = line_at(nodes, starts, ports, sizes, i);
+        let place = i;
+        let l = line_at(nodes, starts, ports, sizes, place);
         i += 1;
         if goes(l, gone) {
+            falls[place] = GONE;
             continue;
         }
         put_line(nodes, starts, ports, sizes, j, l);
+        falls[place] = (place - j) as u16;
         j += 1;
     }
     j

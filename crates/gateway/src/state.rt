@@ -10,7 +10,8 @@ pub struct Head {
     pub count: usize,
 }
 
-// Line i is at place i of four lists, which is less to copy than a list of lines. Places past the count are no part of the state.
+// Line i is at place i of four lists, which is less to copy than a list of lines. The index has the lines' numbers in order of port, size, first event
+// and place, and sets of the sizes that occur. Places of the lines and of the order past the count are no part of the state.
 #[repr(C)]
 pub struct Gateway {
     pub head: Head,
@@ -18,4 +19,6 @@ pub struct Gateway {
     pub starts: [u64; 256],
     pub ports: [u8; 256],
     pub sizes: [u8; 256],
+    pub order: [u8; 256],
+    pub sets: [u64; 9],
 }

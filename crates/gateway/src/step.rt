@@ -5,12 +5,14 @@ ghost use Prim.Native.Nat.{_<_};
 ghost use Rattle.range.specs.Range.{isBlock};
 ghost use Rattle.gateway_rules.specs.State.{outOfBounds};
 ghost use Rattle.gateway_rules.specs.Step.{announce as announceTo, hear as hearAt, holdsSome, replacing, restart as restartOf, storing};
-ghost use Rattle.gateway.specs.State.{Whole, linesIn, gateIn, gateAfter, held, entered, left};
+ghost use Rattle.gateway.specs.State.{Whole, linesIn, gateIn, gateAfter, held, entered, left, indexHeld, indexLeft};
 ghost use Rattle.gateway.specs.Answers.{AnnouncesBlock};
+ghost use Rattle.gateway.specs.Indexing.{IndexFits, WholeIndex};
 use crate::Head;
 use crate::lines;
 use crate::lines::Standing;
 use crate::port_sets;
+use crate::table;
 use gateway_rules::Line;
 use message::Saying;
 
@@ -27,17 +29,21 @@ pub(crate) fn hear(
     starts: &mut [u64],
     ports: &mut [u8],
     sizes: &mut [u8],
+    order: &mut [u8],
+    sets: &mut [u64],
     port: u8,
     node: u64,
     saying: Saying,
 ) -> Left
-    requires { ⌜ Whole (held nodes starts ports sizes) ⌝ }
+    requires { ⌜ Whole (held nodes starts ports sizes) × WholeIndex (indexHeld order sets) ⌝ }
+    requires { ⌜ IndexFits (head .count) (held nodes starts ports sizes) (indexHeld order sets) ⌝ }
     requires { ⌜ outOfBounds (gateIn head (held nodes starts ports sizes)) ≡ false ⌝ }
     requires { ⌜ (port < head .ports) × AnnouncesBlock saying ⌝ }
     ensures { λ r. ⌜ gateAfter head r (left nodes starts ports sizes) ≡ hearAt (gateIn head (entered nodes starts ports sizes)) port node saying ⌝ }
+    ensures { λ r. ⌜ IndexFits (r .count) (left nodes starts ports sizes) (indexLeft order sets) ⌝ }
 {
     if let Saying::Restart = saying {
-        return restart(head, nodes, starts, ports, sizes, node);
+        return restart(head, nodes, starts, ports, sizes, order, sets, node);
     }
     let Saying::Announcement(block) = saying else {
         return unchanged(head);
@@ -48,6 +54,8 @@ pub(crate) fn hear(
         starts,
         ports,
         sizes,
+        order,
+        sets,
         Line { port, node, block },
     )
 }
@@ -58,14 +66,18 @@ fn restart(
     starts: &mut [u64],
     ports: &mut [u8],
     sizes: &mut [u8],
+    order: &mut [u8],
+    sets: &mut [u64],
     node: u64,
 ) -> Left
-    requires { ⌜ Whole (held nodes starts ports sizes) ⌝ }
+    requires { ⌜ Whole (held nodes starts ports sizes) × WholeIndex (indexHeld order sets) ⌝ }
+    requires { ⌜ IndexFits (head .count) (held nodes starts ports sizes) (indexHeld order sets) ⌝ }
     requires { ⌜ outOfBounds (gateIn head (held nodes starts ports sizes)) ≡ false ⌝ }
     ensures { λ r. ⌜ gateAfter head r (left nodes starts ports sizes) ≡ restartOf (gateIn head (entered nodes starts ports sizes)) node ⌝ }
+    ensures { λ r. ⌜ IndexFits (r .count) (left nodes starts ports sizes) (indexLeft order sets) ⌝ }
 {
     let marks = head.marks;
-    let count = lines::without_node(head.count, nodes, starts, ports, sizes, node);
+    let count = table::without_node(head.count, nodes, starts, ports, sizes, order, sets, node);
     Left { marks, count }
 }
 
@@ -75,17 +87,21 @@ fn announce(
     starts: &mut [u64],
     ports: &mut [u8],
     sizes: &mut [u8],
+    order: &mut [u8],
+    sets: &mut [u64],
     l: Line,
 ) -> Left
-    requires { ⌜ Whole (held nodes starts ports sizes) ⌝ }
+    requires { ⌜ Whole (held nodes starts ports sizes) × WholeIndex (indexHeld order sets) ⌝ }
+    requires { ⌜ IndexFits (head .count) (held nodes starts ports sizes) (indexHeld order sets) ⌝ }
     requires { ⌜ outOfBounds (gateIn head (held nodes starts ports sizes)) ≡ false ⌝ }
     requires { ⌜ (l .port < head .ports) × (isBlock (l .block) ≡ true) ⌝ }
     ensures { λ r. ⌜ gateAfter head r (left nodes starts ports sizes) ≡ announceTo (gateIn head (entered nodes starts ports sizes)) l ⌝ }
+    ensures { λ r. ⌜ IndexFits (r .count) (left nodes starts ports sizes) (indexLeft order sets) ⌝ }
 {
     match lines::looked_for(head.count, nodes, starts, ports, sizes, l) {
         Standing::Covered => unchanged(head),
-        Standing::Holding => replace(head, nodes, starts, ports, sizes, l),
-        Standing::New => store(head, nodes, starts, ports, sizes, l),
+        Standing::Holding => replace(head, nodes, starts, ports, sizes, order, sets, l),
+        Standing::New => store(head, nodes, starts, ports, sizes, order, sets, l),
     }
 }
 
@@ -95,15 +111,19 @@ fn replace(
     starts: &mut [u64],
     ports: &mut [u8],
     sizes: &mut [u8],
+    order: &mut [u8],
+    sets: &mut [u64],
     l: Line,
 ) -> Left
-    requires { ⌜ Whole (held nodes starts ports sizes) ⌝ }
+    requires { ⌜ Whole (held nodes starts ports sizes) × WholeIndex (indexHeld order sets) ⌝ }
+    requires { ⌜ IndexFits (head .count) (held nodes starts ports sizes) (indexHeld order sets) ⌝ }
     requires { ⌜ outOfBounds (gateIn head (held nodes starts ports sizes)) ≡ false ⌝ }
-    requires { ⌜ (isBlock (l .block) ≡ true) × (holdsSome (linesIn (head .count) (held nodes starts ports sizes)) l ≡ true) ⌝ }
+    requires { ⌜ (l .port < head .ports) × (isBlock (l .block) ≡ true) × (holdsSome (linesIn (head .count) (held nodes starts ports sizes)) l ≡ true) ⌝ }
     ensures { λ r. ⌜ gateAfter head r (left nodes starts ports sizes) ≡ replacing (gateIn head (entered nodes starts ports sizes)) l ⌝ }
+    ensures { λ r. ⌜ IndexFits (r .count) (left nodes starts ports sizes) (indexLeft order sets) ⌝ }
 {
-    let kept = lines::without_held(head.count, nodes, starts, ports, sizes, l);
-    lines::put_line(nodes, starts, ports, sizes, kept, l);
+    let kept = table::without_held(head.count, nodes, starts, ports, sizes, order, sets, l);
+    table::add(kept, nodes, starts, ports, sizes, order, sets, l);
     Left {
         marks: head.marks,
         count: kept + 1,
@@ -116,16 +136,20 @@ fn store(
     starts: &mut [u64],
     ports: &mut [u8],
     sizes: &mut [u8],
+    order: &mut [u8],
+    sets: &mut [u64],
     l: Line,
 ) -> Left
-    requires { ⌜ Whole (held nodes starts ports sizes) ⌝ }
+    requires { ⌜ Whole (held nodes starts ports sizes) × WholeIndex (indexHeld order sets) ⌝ }
+    requires { ⌜ IndexFits (head .count) (held nodes starts ports sizes) (indexHeld order sets) ⌝ }
     requires { ⌜ outOfBounds (gateIn head (held nodes starts ports sizes)) ≡ false ⌝ }
-    requires { ⌜ l .port < head .ports ⌝ }
+    requires { ⌜ (l .port < head .ports) × (isBlock (l .block) ≡ true) ⌝ }
     ensures { λ r. ⌜ gateAfter head r (left nodes starts ports sizes) ≡ storing (gateIn head (entered nodes starts ports sizes)) l ⌝ }
+    ensures { λ r. ⌜ IndexFits (r .count) (left nodes starts ports sizes) (indexLeft order sets) ⌝ }
 {
     let count = head.count;
     if count < 256 {
-        lines::put_line(nodes, starts, ports, sizes, count, l);
+        table::add(count, nodes, starts, ports, sizes, order, sets, l);
         return Left {
             marks: head.marks,
             count: count + 1,

@@ -1,4 +1,5 @@
 // The commands of the case file.
+use crate::laid_index;
 use crate::lent;
 use crate::reading;
 use crate::reading::Line;
@@ -20,11 +21,15 @@ const AT: u64 = 0x61_7411;
 
 const REPEAT: u64 = 0x72_6570_6521;
 
-const LENT: u64 = 0x6C_656E_7451;
+const ORDER: u64 = 0x6F_7264_6520;
+
+const SETS: u64 = 0x73_6574_7320;
+
+const LENT: u64 = 0x6C_656E_7471;
 
 const WHY: u64 = 0x7768_7921;
 
-const WHY_LENT: u64 = 0x7768_7961;
+const WHY_LENT: u64 = 0x7768_7981;
 
 pub(crate) fn obey(g: Gateway, l: Line, number: usize) -> Gateway {
     let numbers = l.numbers;
@@ -35,6 +40,8 @@ pub(crate) fn obey(g: Gateway, l: Line, number: usize) -> Gateway {
         START => report::started(gateway::start(byte(numbers[1]), numbers[2])),
         BOX => tables::laid_out(numbers),
         LINES => tables::filled(g, numbers),
+        ORDER => laid_index::with_order(g, numbers),
+        SETS => laid_index::with_set(g, numbers),
         AT => report::told(g, received(g, byte(numbers[1]), 1, bytes, length)),
         REPEAT => report::told(g, received(g, byte(numbers[2]), numbers[1], bytes, length)),
         LENT => report::told(g, lent::received(g, numbers, bytes, length)),

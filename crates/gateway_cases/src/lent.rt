@@ -4,7 +4,7 @@ use gateway::Answer;
 use gateway::Gateway;
 use gateway::Head;
 
-// The answer, and the lists as they were left.
+// The answer, and the lists of the lines as they were left.
 struct Lent {
     refusal: u8,
     sent: u8,
@@ -23,12 +23,24 @@ pub(crate) fn received(g: Gateway, numbers: [u64; 16], bytes: [u8; 512], length:
     let starts = g.starts;
     let ports = g.ports;
     let sizes = g.sizes;
+    let mut order = g.order;
+    let mut sets = g.sets;
     let end = length % 513;
     let message = &bytes[0..end];
-    answered(
+    let of_order = (numbers[5] % 257) as usize;
+    let of_sets = (numbers[6] % 10) as usize;
+    let a = lend(
         head,
-        lend(head, nodes, longer(starts), ports, sizes, numbers, message),
-    )
+        nodes,
+        longer(starts),
+        ports,
+        sizes,
+        &mut order[0..of_order],
+        &mut sets[0..of_sets],
+        numbers,
+        message,
+    );
+    answered(head, a, order, sets)
 }
 
 fn lend(
@@ -37,6 +49,8 @@ fn lend(
     old_starts: [u64; 257],
     old_ports: [u8; 256],
     old_sizes: [u8; 256],
+    order: &mut [u8],
+    sets: &mut [u64],
     numbers: [u64; 16],
     message: &[u8],
 ) -> Lent {
@@ -54,7 +68,9 @@ fn lend(
         &mut starts[0..of_starts],
         &mut ports[0..of_ports],
         &mut sizes[0..of_sizes],
-        byte(numbers[5]),
+        order,
+        sets,
+        byte(numbers[7]),
         message,
     );
     Lent {
@@ -69,7 +85,7 @@ fn lend(
     }
 }
 
-fn answered(old: Head, a: Lent) -> Answer {
+fn answered(old: Head, a: Lent, order: [u8; 256], sets: [u64; 9]) -> Answer {
     let automatic = old.automatic;
     let head = Head {
         ports: old.ports,
@@ -90,6 +106,8 @@ fn answered(old: Head, a: Lent) -> Answer {
             starts: shorter(starts),
             ports,
             sizes,
+            order,
+            sets,
         },
     }
 }

@@ -1,4 +1,6 @@
 // What is printed of a step.
+use crate::laid_index::order_total;
+use crate::laid_index::sets_total;
 use crate::tables::total;
 use gateway::Answer;
 use gateway::Gateway;
@@ -13,9 +15,11 @@ pub(crate) fn told(before: Gateway, a: Answer) -> Gateway {
     let g = a.gateway;
     let head = g.head;
     answer(a.refusal, a.sent, head.ports);
-    kept(a.refusal, total(before, 256), total(g, 256));
+    kept(a.refusal, of_everything(before), of_everything(g));
     state(head, total(g, head.count));
     lines(g);
+    order(g);
+    sets(g);
     g
 }
 
@@ -95,6 +99,59 @@ fn lines(g: Gateway) {
         }
         line(at, g.ports[at], g.nodes[at], g.starts[at], g.sizes[at]);
     }
+}
+
+// The order up to the count, of a long table the first four, the last four and their total.
+fn order(g: Gateway) {
+    let head = g.head;
+    let count = at_most(head.count, 256);
+    say(b"    order");
+    let mut i = 0;
+    while i < 256 {
+        if count <= i {
+            return;
+        }
+        let at = i;
+        i += 1;
+        if 4 <= at {
+            if at + 4 < count {
+                continue;
+            }
+        }
+        hex(g.order[at] as u64, 1);
+        after_last(g, i, count);
+    }
+}
+
+fn after_last(g: Gateway, printed: usize, count: usize) {
+    if count <= 8 {
+        return;
+    }
+    if printed < count {
+        return;
+    }
+    say(b" total");
+    hex(order_total(g, count), 16);
+}
+
+fn sets(g: Gateway) {
+    say(b"; sets");
+    let mut i = 0;
+    while i < 9 {
+        hex(g.sets[i], 1);
+        i += 1;
+    }
+    say(b"\n");
+}
+
+fn at_most(n: usize, most: usize) -> usize {
+    if most < n { most } else { n }
+}
+
+// What a refusal keeps: every place of the lists, those of the index too.
+fn of_everything(g: Gateway) -> u64 {
+    let index = std::num::wrapping_add_u64(order_total(g, 256), sets_total(g));
+    std::num::wrapping_add_u64(total(g, 256), index)
 }
 
 fn line(place: usize, port: u8, node: u64, start: u64, k: u8) {

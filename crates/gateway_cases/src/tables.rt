@@ -1,11 +1,12 @@
 // States that are laid out.
+use crate::laid_index;
 use gateway::Gateway;
 use gateway::Head;
 use range::Block;
 
 // The numbers: ports, marks, the automatic block's start and k, and the line count.
 pub(crate) fn laid_out(numbers: [u64; 16]) -> Gateway {
-    Gateway {
+    laid_index::indexed(Gateway {
         head: Head {
             ports: byte(numbers[1]),
             marks: byte(numbers[2]),
@@ -19,7 +20,9 @@ pub(crate) fn laid_out(numbers: [u64; 16]) -> Gateway {
         starts: [0; 256],
         ports: [0; 256],
         sizes: [0; 256],
-    }
+        order: [0; 256],
+        sets: [0; 9],
+    })
 }
 
 // The numbers: the first place and the last, the stride between them, then port, Node ID, start, k and how much the start rises each time.
@@ -39,7 +42,7 @@ pub(crate) fn filled(g: Gateway, numbers: [u64; 16]) -> Gateway {
         next.sizes[at] = byte(numbers[7]);
         start = std::num::wrapping_add_u64(start, numbers[8]);
     }
-    next
+    laid_index::indexed(next)
 }
 
 fn left_out(place: u64, first: u64, last: u64, stride: u64) -> bool {

@@ -9,8 +9,9 @@ use gateway::WhyAnswer;
 // The numbers for lists that are lent whole.
 pub(crate) fn whole(port: u64, asked: u64) -> [u64; 16] {
     let mut numbers = [256; 16];
-    numbers[5] = port;
-    numbers[6] = asked;
+    numbers[6] = 9;
+    numbers[7] = port;
+    numbers[8] = asked;
     numbers
 }
 
@@ -21,14 +22,20 @@ pub(crate) fn asked(g: Gateway, numbers: [u64; 16], bytes: [u8; 512], length: us
     let starts = g.starts;
     let ports = g.ports;
     let sizes = g.sizes;
+    let order = g.order;
+    let sets = g.sets;
     let end = length % 513;
     let message = &bytes[0..end];
+    let of_order = (numbers[5] % 257) as usize;
+    let of_sets = (numbers[6] % 10) as usize;
     report::reason(lend(
         head,
         nodes,
         lent::longer(starts),
         ports,
         sizes,
+        &order[0..of_order],
+        &sets[0..of_sets],
         numbers,
         message,
     ));
@@ -41,6 +48,8 @@ fn lend(
     starts: [u64; 257],
     ports: [u8; 256],
     sizes: [u8; 256],
+    order: &[u8],
+    sets: &[u64],
     numbers: [u64; 16],
     message: &[u8],
 ) -> WhyAnswer {
@@ -54,8 +63,10 @@ fn lend(
         &starts[0..of_starts],
         &ports[0..of_ports],
         &sizes[0..of_sizes],
-        byte(numbers[5]),
-        byte(numbers[6]),
+        order,
+        sets,
+        byte(numbers[7]),
+        byte(numbers[8]),
         message,
     )
 }

@@ -1,9 +1,9 @@
 -- A box whose index is that of its table stays one, and does what its gate alone does; any other is refused with 7, and nothing changes.
 use Prim.Native.Nat.{ℕ}
 use mathlib.Core.Path.{_≡_, refl, sym, ap, ap₂, _∙_}
-use mathlib.Core.Bool.{Bool, true, false, cond, not, false≢true}
+use mathlib.Core.Bool.{Bool, true, false, cond, not}
 use mathlib.Core.List.{List, [], _∷_}
-use borrow.Author.Tests.{eqb-true, eqb-false, eq-eqb, not-false}
+use borrow.Author.Tests.{eqb-false, not-false}
 use lib.Dec.{eqb}
 use Rattle.basics.proofs.Bools.{both}
 use Rattle.gateway_rules.specs.declared.Line.{Line}
@@ -12,29 +12,15 @@ use Rattle.gateway_rules.specs.Step.{Outcome, refusing, step}
 use Rattle.gateway_rules.specs.History.{Entry, after}
 use Rattle.gateway_rules.proofs.Sending.{refused-nothing}
 use Rattle.index_rules.specs.Index.{Index, indexOf}
-use Rattle.index_rules.specs.Agreeing.{sameNumbers}
-use Rattle.index_rules.specs.Boxes.{Box, strays, boxStep, indexAfter, boxNext, boxAfter}
+use Rattle.index_rules.proofs.Sorted.{same-numbers, same-refl}
+use Rattle.index_rules.specs.Boxes.{Box, Right, strays, boxStep, indexAfter, boxNext, boxAfter}
 
 -- ---- the test
-
-numbers-same : (xs : List ℕ) → sameNumbers xs xs ≡ true
-unfolding sameNumbers
-numbers-same [] = refl
-numbers-same (x ∷ xs) = rw (eq-eqb x x refl) (numbers-same xs)
-
-same-numbers : (xs ys : List ℕ) → sameNumbers xs ys ≡ true → xs ≡ ys
-unfolding sameNumbers
-same-numbers [] [] e = refl
-same-numbers [] (y ∷ ys) e = absurd (false≢true e)
-same-numbers (x ∷ xs) [] e = absurd (false≢true e)
-same-numbers (x ∷ xs) (y ∷ ys) e =
-    let h = both (eqb x y) (sameNumbers xs ys) e in
-    ap₂ (λ (z : ℕ) (zs : List ℕ). z ∷ zs) (eqb-true x y (h .0)) (same-numbers xs ys (h .1))
 
 -- An index strays exactly where it is not that of its table.
 pub strays-not : (lines : List Line) → strays (indexOf lines) lines ≡ false
 unfolding strays
-strays-not lines = rw (numbers-same (indexOf lines .order)) (ap not (numbers-same (indexOf lines .sets)))
+strays-not lines = rw (same-refl (indexOf lines .order)) (ap not (same-refl (indexOf lines .sets)))
 
 pub not-strays : (x : Index) (lines : List Line) → strays x lines ≡ false → x ≡ indexOf lines
 unfolding strays
@@ -55,13 +41,13 @@ module _ (b : Box) (q : ℕ) (bytes : List ℕ) (astray : strays (b .index) (b .
 -- ---- an index that is that of its table
 
 -- The box does what its gate alone does.
-pub gate-alone-step : (b : Box) (q : ℕ) (bytes : List ℕ) → b .index ≡ indexOf (b .gate .lines) → boxStep b q bytes ≡ step (b .gate) q bytes
+pub gate-alone-step : (b : Box) (q : ℕ) (bytes : List ℕ) → Right b → boxStep b q bytes ≡ step (b .gate) q bytes
 gate-alone-step b q bytes i =
     let agrees : strays (b .index) (b .gate .lines) ≡ false = ap (λ (x : Index). strays x (b .gate .lines)) i ∙ strays-not (b .gate .lines) in
     ap (λ (t : Bool). cond t (refusing (b .gate) 7) (step (b .gate) q bytes)) agrees
 
 -- After a call, accepted or refused, the index is that of its table.
-pub index-next : (b : Box) (q : ℕ) (bytes : List ℕ) → b .index ≡ indexOf (b .gate .lines) → boxNext b q bytes .index ≡ indexOf (boxNext b q bytes .gate .lines)
+pub index-next : (b : Box) (q : ℕ) (bytes : List ℕ) → Right b → Right (boxNext b q bytes)
 index-next b q bytes i = ap (indexAfter (b .index)) alone ∙ kept (eqb (o .refusal) 0) refl ∙ ap (λ (x : Outcome). indexOf (x .next .lines)) (sym alone)
   where
     o : Outcome
@@ -77,12 +63,12 @@ index-next b q bytes i = ap (indexAfter (b .index)) alone ∙ kept (eqb (o .refu
 -- ---- histories
 
 -- "After every call the index is that of its table."
-pub index-always : (b : Box) → b .index ≡ indexOf (b .gate .lines) → (h : List Entry) → boxAfter b h .index ≡ indexOf (boxAfter b h .gate .lines)
+pub index-always : (b : Box) → Right b → (h : List Entry) → Right (boxAfter b h)
 index-always b i [] = i
 index-always b i (e ∷ h) = index-always (boxNext b (e .port) (e .bytes)) (index-next b (e .port) (e .bytes) i) h
 
 -- The gate of the box is what its gate alone would be: so every theorem on `after` holds of it.
-pub gate-alone : (b : Box) → b .index ≡ indexOf (b .gate .lines) → (h : List Entry) → boxAfter b h .gate ≡ after (b .gate) h
+pub gate-alone : (b : Box) → Right b → (h : List Entry) → boxAfter b h .gate ≡ after (b .gate) h
 gate-alone b i [] = refl
 gate-alone b i (e ∷ h) =
     gate-alone (boxNext b (e .port) (e .bytes)) (index-next b (e .port) (e .bytes) i) h

@@ -9,6 +9,7 @@ pub mod Sorting
 pub mod Sorted
 pub mod Lowering
 pub mod Once
+pub mod SizeSets
 pub mod Sizes
 pub mod Looking
 pub mod Boxes

@@ -8,12 +8,8 @@ use native.Mathlib.Numerals.{add-one}
 use native.Mathlib.Omega.{arith}
 use borrow.Author.Tests.{le-leb, lt-leb}
 use lib.Dec.{leb}
-use Rattle.basics.specs.Sets.{anyBelow}
-use Rattle.basics.proofs.Below.{one-passes}
-use Rattle.basics.proofs.Bools.{same-truth}
 use Rattle.index_rules.specs.Agreeing.{key, Agrees, rank}
 use Rattle.index_rules.proofs.Comparing.{less-or-not}
-use Rattle.index_rules.proofs.Passing.{one-found}
 use Rattle.index_rules.proofs.Ranks.{rank-first}
 use Rattle.index_rules.proofs.Counting.{Apart, Named, all-named, as-many}
 
@@ -49,15 +45,6 @@ module _ {spotAt : ℕ → ℕ} {n : ℕ} {at : ℕ → ℕ} (a : Agrees spotAt 
       (λ j k. lt-leb (key spotAt (at i)) (key spotAt (at j)) (further-on j i k l))
       (λ j b k. le-leb (key spotAt (at i)) (key spotAt (at j))
       (⊎-elim (λ e. omega (arith, ap (λ (m : ℕ). key spotAt (at m)) e)) (λ c. omega (arith, further-on i j c k)) (eq-or-lt-of-le b)))
-
-  -- A test that goes by the order sees every line.
-  pub by-agreeing : (test : ℕ → Bool) → anyBelow n (λ i. test (at i)) ≡ anyBelow n test
-  by-agreeing test = same-truth (anyBelow n (λ i. test (at i))) (anyBelow n test)
-      (λ h. let f = one-found n (λ i. test (at i)) h in one-passes n test (at (f .place)) (a .below (f .place) (f .there)) (f .passes))
-      (λ h.
-      let f = one-found n test h in
-      let w = every-named (f .place) (f .there) in
-      one-passes n (λ i. test (at i)) (w .place) (w .there) (ap test (w .names) ∙ f .passes))
 
   pub agrees-same : {to : ℕ → ℕ} → ((i : ℕ) → i < n → at i ≡ to i) → Agrees spotAt n to
   agrees-same same = record {

@@ -45,3 +45,8 @@ any-each test (suc n) at =
     any-append test (each n at) (at n ∷ [])
     ∙ ap₂ (λ (s t : Bool). s || t) (any-each test n at) (or-false (test (at n)))
     ∙ or-comm (anyBelow n (λ i. test (at i))) (test (at n))
+
+-- Tests that say the same of each number say the same of all.
+pub below-same : (n : ℕ) (f g : ℕ → Bool) → ((i : ℕ) → i < n → f i ≡ g i) → anyBelow n f ≡ anyBelow n g
+below-same zero f g h = refl
+below-same (suc n) f g h = ap₂ (λ (s t : Bool). s || t) (h n (le-refl (suc n))) (below-same n f g (λ i l. h i (le-trans l (le-suc n))))

@@ -1,5 +1,6 @@
 -- A box: a gate with the index beside its table (document 02, W6).
 use Prim.Native.Nat.{ℕ}
+use mathlib.Core.Path.{_≡_}
 use mathlib.Core.Bool.{Bool, cond, not, _&&_}
 use mathlib.Core.List.{List, [], _∷_}
 use lib.Dec.{eqb}
@@ -13,6 +14,10 @@ use Rattle.index_rules.specs.Agreeing.{sameNumbers}
 pub record Box : Type 0 where
   pub gate : Gate
   pub index : Index
+
+-- The index is that of its table.
+abbrev pub Right : Box → Type 0
+Right b = b .index ≡ indexOf (b .gate .lines)
 
 -- An index that disagrees with its table.
 unfoldable pub strays : Index → List Line → Bool

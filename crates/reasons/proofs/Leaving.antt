@@ -9,7 +9,10 @@ use Rattle.range.specs.Range.{house}
 use Rattle.basics.specs.Lists.{each}
 use Rattle.gateway_rules.specs.State.{Gate, startOf}
 use Rattle.gateway_rules.specs.History.{Entry, after}
-use Rattle.gateway_rules.specs.Step.{start, step}
+use Rattle.gateway_rules.specs.Step.{Outcome, start, step}
+use Rattle.index_rules.specs.Index.{indexOf}
+use Rattle.index_rules.specs.Boxes.{Box, Right, boxStep}
+use Rattle.index_rules.proofs.Boxes.{gate-alone-step}
 use Rattle.gateway.specs.State.{gateOf}
 use Rattle.gateway.specs.declared.Answer.{Answer}
 use Rattle.gateway.specs.Answers.{Seen, seenIn, seenOf}
@@ -19,16 +22,18 @@ use Rattle.replay.proofs.Good.{Good, body-next, body-part}
 use Rattle.replay.proofs.Walk.{started}
 use Rattle.reasons.specs.Lines.{leftAfter, answerOf, lastOf}
 
-pub left-none : (s : List ℕ) (a : Answer) → seenIn a ≡ seenOf (start ports house) → gateOf (a .gateway) ≡ leftAfter 0 s
+pub left-none : (s : List ℕ) (a : Answer) → seenIn a ≡ seenOf (indexOf []) (start ports house) → gateOf (a .gateway) ≡ leftAfter 0 s
 unfolding leftAfter
 left-none s a e = started a e
 
-pub left-next : (s : List ℕ) (i : ℕ) {g : Gate} {bytes : List ℕ} (a : Answer) → g ≡ leftAfter i s → bytes ≡ bodyIn s i
-    → seenIn a ≡ seenOf (step g (portIn s i) bytes) → gateOf (a .gateway) ≡ leftAfter (i + 1) s
+-- A box whose index is right does what its gate alone does.
+pub left-next : (s : List ℕ) (i : ℕ) (b : Box) {bytes : List ℕ} (a : Answer) → Right b → b .gate ≡ leftAfter i s → bytes ≡ bodyIn s i
+    → seenIn a ≡ seenOf (b .index) (boxStep b (portIn s i) bytes) → gateOf (a .gateway) ≡ leftAfter (i + 1) s
 unfolding leftAfter
-left-next s i a e b h =
+left-next s i b {bytes} a r e f h =
     ap (λ (x : Seen). x .gate) h
-    ∙ ap₂ (λ (x : Gate) (l : List ℕ). step x (portIn s i) l .next) e b
+    ∙ ap (λ (o : Outcome). o .next) (gate-alone-step b (portIn s i) bytes r)
+    ∙ ap₂ (λ (x : Gate) (l : List ℕ). step x (portIn s i) l .next) e f
     ∙ ap (λ (n : ℕ). leftAfter n s) (sym (add-one i))
 
 -- It is what the history of those entries leaves, so that what is known of histories is known of the text.

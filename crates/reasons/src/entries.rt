@@ -3,7 +3,8 @@ ghost use mathlib.Core.Path.{_≡_};
 ghost use mathlib.Core.Bool.{true};
 ghost use Prim.Native.Nat.{_+_, _<_, _≤_};
 ghost use Rattle.text.specs.Text.{filled, endOf};
-ghost use Rattle.gateway.specs.State.{gateOf};
+ghost use Rattle.index_rules.specs.Boxes.{Right};
+ghost use Rattle.gateway.specs.State.{gateOf, boxOf};
 ghost use Rattle.replay.specs.Files.{entryCount, goodFile};
 ghost use Rattle.reasons.specs.Lines.{leftAfter, lastOf};
 use crate::lines;
@@ -25,6 +26,8 @@ pub(crate) fn ask_last(file: &[u8], last: usize, at: Place, text: &mut [u8]) -> 
     let starts = left.starts;
     let ports = left.ports;
     let sizes = left.sizes;
+    let order = left.order;
+    let sets = left.sets;
     let entry = 2 + last * 3;
     let port = file[entry];
     let length = numbers::read_at(file, entry + 1, 2) as usize;
@@ -35,6 +38,8 @@ pub(crate) fn ask_last(file: &[u8], last: usize, at: Place, text: &mut [u8]) -> 
         &starts,
         &ports,
         &sizes,
+        &order,
+        &sets,
         port,
         &file[body..],
         at,
@@ -42,11 +47,12 @@ pub(crate) fn ask_last(file: &[u8], last: usize, at: Place, text: &mut [u8]) -> 
     )
 }
 
-// The state that so many entries leave.
+// The state that so many entries leave, whose index is right.
 fn left_after(file: &[u8], count: usize) -> Gateway
     requires { ⌜ goodFile (now file) ≡ true ⌝ }
     requires { ⌜ count ≤ entryCount (now file) ⌝ }
     ensures { λ g. ⌜ gateOf g ≡ leftAfter count (now (file .entry)) ⌝ }
+    ensures { λ g. ⌜ Right (boxOf g) ⌝ }
 {
     let started = gateway::start(PORTS, HOUSE);
     let mut g = started.gateway;

@@ -10,7 +10,8 @@ use Rattle.text.specs.declared.Place.{Place}
 use Rattle.text.specs.Text.{filled, endOf}
 use Rattle.text.proofs.Laws.{Remains, remains-next, remains-none}
 use Rattle.gateway_rules.specs.State.{Gate}
-use Rattle.gateway.specs.State.{Lists, lineAt, gateIn, headWith}
+use Rattle.index_rules.specs.Index.{Index}
+use Rattle.gateway.specs.State.{Lists, IndexLists, lineAt, gateIn, headWith}
 use Rattle.gateway_rules.specs.Step.{Outcome, step}
 use Rattle.gateway.specs.declared.state.Head.{Head}
 use Rattle.gateway.specs.declared.LentAnswer.{LentAnswer}
@@ -32,9 +33,9 @@ module _ (i : ℕ) (g : Gate) (s : List ℕ) where
   lines-next n = refl
 
 -- The line of an answer, with the count that the step leaves.
-line-for : (i : ℕ) (o : Outcome) (head : Head) (a : LentAnswer) (t : Lists) → seenLent head a t ≡ seenOf o → lineOf i (a .refusal) (a .sent) (a .count) ≡ lineFor i o
+line-for : (i : ℕ) (o : Outcome) (head : Head) (a : LentAnswer) (t : Lists) (x : IndexLists) (before : Index) → seenLent head a t x ≡ seenOf before o → lineOf i (a .refusal) (a .sent) (a .count) ≡ lineFor i o
 unfolding gateIn
-line-for i o head a t e =
+line-for i o head a t x before e =
     let count = sym (each-length (a .count) (lineAt t)) ∙ ap (λ (x : Seen). length (x .gate .lines)) e in
     λ z. lineOf i (e z .refusal) (e z .sent) (count z)
 
@@ -54,15 +55,15 @@ running-start g₀ file first text f h = record {
 
 module _ {g₀ : Gate} {file : List ℕ} {first : Place} {text₀ : List ℕ} {i at : ℕ} {g : Gate} {next : Place} {text : List ℕ} (r : Running g₀ file first text₀ i at g next text) where
   -- The entry's line is put in, and the next body stands after its own.
-  pub running-next : (head : Head) (a : LentAnswer) (t : Lists) {next′ : Place} {text′ : List ℕ} {size : ℕ} → i < entryCount file → size ≡ lengthIn file i
-      → seenLent head a t ≡ seenOf (step g (portIn file i) (take (at + size - at) (drop at file)))
+  pub running-next : (head : Head) (a : LentAnswer) (t : Lists) (x : IndexLists) (before : Index) {next′ : Place} {text′ : List ℕ} {size : ℕ} → i < entryCount file → size ≡ lengthIn file i
+      → seenLent head a t x ≡ seenOf before (step g (portIn file i) (take (at + size - at) (drop at file)))
       → next′ ≡ endOf next (lineOf i (a .refusal) (a .sent) (a .count)) text
       → text′ ≡ filled next (lineOf i (a .refusal) (a .sent) (a .count)) text
       → Running g₀ file first text₀ (i + 1) (at + size) (gateIn (headWith head (a .marks) (a .count)) t) next′ text′
-  running-next head a t h z e e₁ f₁ =
+  running-next head a t x before h z e e₁ f₁ =
       let left : entryCount file - i ≡ suc (entryCount file - (i + 1)) = omega (arith, h) in
-      let taken : seenLent head a t ≡ seenOf (stepAt g file i) = e ∙ ap (λ (l : List ℕ). seenOf (step g (portIn file i) l)) (entry-body (r .entry) z) in
-      let line = line-for i (stepAt g file i) head a t taken in
+      let taken : seenLent head a t x ≡ seenOf before (stepAt g file i) = e ∙ ap (λ (l : List ℕ). seenOf before (step g (portIn file i) l)) (entry-body (r .entry) z) in
+      let line = line-for i (stepAt g file i) head a t x before taken in
       let lines : linesFrom (entryCount file - i) i g file ≡ lineOf i (a .refusal) (a .sent) (a .count) ++ linesFrom (entryCount file - (i + 1)) (i + 1) (gateIn (headWith head (a .marks) (a .count)) t) file
       = ap (λ (n : ℕ). linesFrom n i g file) left
       ∙ lines-next i g file (entryCount file - (i + 1))

@@ -5,7 +5,8 @@ ghost use Prim.Native.Nat.{_≤_};
 ghost use lib.ListN.{length};
 ghost use Rattle.range.specs.Range.{house};
 ghost use Rattle.text.specs.Text.{filled, endOf};
-ghost use Rattle.gateway.specs.State.{gateOf};
+ghost use Rattle.index_rules.specs.Boxes.{Right};
+ghost use Rattle.gateway.specs.State.{gateOf, boxOf};
 ghost use Rattle.gateway_rules.specs.State.{startOf};
 ghost use Rattle.replay.specs.Files.{entryCount, goodFile};
 ghost use Rattle.replay.specs.Lines.{ports, linesFrom};
@@ -27,8 +28,9 @@ pub(crate) fn run(file: &[u8], first: Place, text: &mut [u8]) -> Place
     from(gateway, file, first, text)
 }
 
-// The same from any state. The box works in place: its lists are lent to each call.
+// The same from any state whose index is right. The box works in place: its lists are lent to each call.
 fn from(gateway: Gateway, file: &[u8], first: Place, text: &mut [u8]) -> Place
+    requires { ⌜ Right (boxOf gateway) ⌝ }
     requires { ⌜ goodFile (now file) ≡ true ⌝ }
     requires { ⌜ first .at ≤ length (now text) ⌝ }
     ensures { λ r. ⌜ r ≡ endOf first (linesFrom (entryCount (now (file .entry))) 0 (gateOf gateway) (now (file .entry))) (now (text .entry)) ⌝ }
@@ -39,6 +41,8 @@ fn from(gateway: Gateway, file: &[u8], first: Place, text: &mut [u8]) -> Place
     let mut starts = gateway.starts;
     let mut ports = gateway.ports;
     let mut sizes = gateway.sizes;
+    let mut order = gateway.order;
+    let mut sets = gateway.sets;
     let mut next = first;
     let count = numbers::read_at(file, 0, 2) as usize;
     let mut at = 2 + count * 3;
@@ -54,6 +58,8 @@ fn from(gateway: Gateway, file: &[u8], first: Place, text: &mut [u8]) -> Place
             &mut starts,
             &mut ports,
             &mut sizes,
+            &mut order,
+            &mut sets,
             port,
             &file[at..end],
         );

@@ -5,7 +5,7 @@ use borrow.Author.Needs.{needs}
 use Rattle.text.specs.Text.{filled, endOf}
 use Rattle.gateway_rules.specs.State.{Gate}
 use Rattle.replay.specs.Files.{entryCount}
-use Rattle.replay.proofs.Walk.{started}
+use Rattle.replay.proofs.Walk.{started, started-right}
 use Rattle.explanation.specs.Words.{linesFrom}
 use Rattle.explanation.proofs.Texts.{started-ports}
 use Rattle.explanation.proofs.entries.run.Statement.{statement}
@@ -15,7 +15,9 @@ start-requires : tie.Need-start-requires
 start-requires c κs = search needs
 
 from-requires : tie.Need-from-requires
-from-requires c κs = (started-ports (c .before .before .start .result) (c .before .before .start .ensures), (c .before .before .before .before .before .pre .0, c .before .before .before .before .before .pre .1))
+from-requires c κs =
+    let begun = c .before .before .start in
+    ((started-right (begun .result) (begun .ensures), started-ports (begun .result) (begun .ensures)), (c .before .before .before .before .before .pre .0, c .before .before .before .before .before .pre .1))
 
 same-length : tie.Need-same-length
 same-length c = search needs

@@ -9,7 +9,7 @@ use Rattle.range.proofs.Laws.{answer-says}
 use Rattle.gateway_rules.specs.Reasons.{firstHolding, byLine}
 use Rattle.gateway.specs.State.{lists, lineAt, linesIn, held}
 use Rattle.gateway.proofs.Places.{block-at}
-use Rattle.gateway.proofs.Wanting.{not-yes}
+use Rattle.gateway.proofs.Wanted.{not-yes}
 use Rattle.gateway.proofs.Naming.{named-nowhere, passed-over, named-at, at-another-port, at-this-port}
 use Rattle.gateway.proofs.asking.first_holding.Statement.{statement}
 use Rattle.gateway.proofs.asking.first_holding.Tie as tie

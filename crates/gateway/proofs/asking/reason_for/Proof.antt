@@ -6,7 +6,7 @@ use Rattle.range.specs.declared.Answer.the-variants.{Yes}
 use Rattle.range.proofs.Laws.{answer-says}
 use Rattle.gateway.specs.State.{held}
 use Rattle.gateway.proofs.InBounds.{head-good, blocks-good, few-lines, few-ports, automatic-block}
-use Rattle.gateway.proofs.Wanting.{not-yes}
+use Rattle.gateway.proofs.Wanted.{not-yes}
 use Rattle.gateway.proofs.Answering.{by-arrival, by-automatic, by-mark, by-lines}
 use Rattle.gateway.proofs.asking.reason_for.Statement.{statement}
 use Rattle.gateway.proofs.asking.reason_for.Tie as tie

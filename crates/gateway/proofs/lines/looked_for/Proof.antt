@@ -9,7 +9,7 @@ use Rattle.gateway.specs.State.{lists, lineAt, linesIn, held}
 use Rattle.gateway_rules.specs.Step.{within, heldBy, covered, holdsSome}
 use Rattle.gateway.proofs.Firsts.{not-more, now-more, any-at, no-places}
 use Rattle.gateway.proofs.Places.{block-at, line-tells}
-use Rattle.gateway.proofs.Lookup.{stands-covered, stands-holding, stands-new, other-node}
+use Rattle.gateway.proofs.Stands.{stands-covered, stands-holding, stands-new, other-node}
 use Rattle.gateway.proofs.lines.looked_for.Statement.{statement}
 use Rattle.gateway.proofs.lines.looked_for.Tie as tie
 

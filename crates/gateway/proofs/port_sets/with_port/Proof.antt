@@ -22,17 +22,17 @@ shl-result c = search needs
 add-result : tie.Need-add-result
 add-result c =
     let a = c .before .args in
-    let sum : a .set + 2 ^ a .port ≡ setOf 8 (λ p. inSet (a .set) p || eqb (a .port) p) = in-put (a .set) (a .port) (omega arith) (omega arith) (ne-eqb _ 1 (c .if1 .left)) in omega (arith, sum, one-bit 8 (a .port) (omega arith), set-below 8 (λ p. inSet (a .set) p || eqb (a .port) p))
+    let sum : a .set + 2 ^ a .port ≡ setOf 8 (λ p. inSet (a .set) p || eqb (a .port) p) = in-put 8 (a .set) (a .port) (omega arith) (omega arith) (ne-eqb _ 1 (c .if1 .left)) in omega (arith, sum, one-bit 8 (a .port) (omega arith), set-below 8 (λ p. inSet (a .set) p || eqb (a .port) p))
 
 returns : tie.Need-returns
 returns c =
     let a = c .before .args in
-    in-had (a .set) (a .port) (omega arith) (eq-eqb _ 1 (c .if1 .taken))
+    in-had 8 (a .set) (a .port) (omega arith) (eq-eqb _ 1 (c .if1 .taken))
 
 returns-2 : tie.Need-returns-2
 returns-2 c =
     let a = c .before .args in
-    ap (λ (x : ℕ). a .set + x) (one-bit 8 (a .port) (omega arith)) ∙ in-put (a .set) (a .port) (omega arith) (omega arith) (ne-eqb _ 1 (c .if1 .left))
+    ap (λ (x : ℕ). a .set + x) (one-bit 8 (a .port) (omega arith)) ∙ in-put 8 (a .set) (a .port) (omega arith) (omega arith) (ne-eqb _ 1 (c .if1 .left))
 
 pub with-port-spec : {M : Type 1} → statement M
 with-port-spec = tie.close (tie.spec shr-if1 shl-result add-result returns returns-2)

@@ -6,7 +6,7 @@ use Rattle.gateway.specs.declared.state.Head.{Head}
 use Rattle.gateway.specs.State.{Lists, gateIn, headWith, linesIn, held}
 use Rattle.gateway_rules.specs.Step.{ofNode, restart}
 use Rattle.basics.specs.Lists.{without}
-use Rattle.gateway.proofs.InBounds.{head-good, few-lines}
+use Rattle.gateway.proofs.InBounds.{head-good, few-lines, lines-sized}
 use Rattle.gateway.proofs.step.restart.Statement.{statement}
 use Rattle.gateway.proofs.step.restart.Tie as tie
 
@@ -17,10 +17,10 @@ restarted head t after count node e = λ i. record { ports = head .ports; automa
 
 without-node-requires : tie.Need-without-node-requires
 without-node-requires c κs =
-    let p = c .before .before .before .before .before .before .before .before in
-    let a = p .args in
+    let a = c .before .before .before .before .before .before .before .before .before .before .before .before .args in
+    let pre = c .before .before .before .before .before .before .before .before .before .before .before .before .pre in
     let t = held (a .nodes) (a .starts) (a .ports) (a .sizes) in
-    (few-lines (a .head) (head-good (a .head) t (p .pre .1)), p .pre .0)
+    (few-lines (a .head) (head-good (a .head) t (pre .1 .1)), (pre .0, (lines-sized (a .head) t (pre .1 .1), pre .1 .0)))
 
 same-length : tie.Need-same-length
 same-length c = search needs
@@ -34,13 +34,27 @@ same-length-3 c = search needs
 same-length-4 : tie.Need-same-length-4
 same-length-4 c = search needs
 
+same-length-5 : tie.Need-same-length-5
+same-length-5 c = search needs
+
+same-length-6 : tie.Need-same-length-6
+same-length-6 c = search needs
+
 returns : tie.Need-returns
 returns c =
-    let a = c .before .before .before .before .before .before .before .before .before .before .before .before .before .before .before .before .before .args in
+    let a = c .before .before .before .before .before .before .before .before .before .before .before .before .before .before .before .before .before .before .before .before .before .before .before .before .before .args in
     let t = held (a .nodes) (a .starts) (a .ports) (a .sizes) in
-    restarted (a .head) t _ (c .before .before .before .before .before .before .before .before .without-node .result) (a .node) (c .before .before .before .before .before .before .before .before .without-node .ensures)
+    (restarted (a .head) t _ (c .before .before .before .before .before .before .before .before .before .before .before .before .without-node .result) (a .node) (c .before .before .before .before .before .before .before .before .before .before .before .before .without-node .ensures .0), c .before .before .before .before .before .before .before .before .before .before .before .before .without-node .ensures .1)
 
 pub restart-spec : {M : Type 1} → statement M
 restart-spec =
     tie.close
-    (tie.spec without-node-requires same-length same-length-2 same-length-3 same-length-4 returns)
+    (tie.spec
+    without-node-requires
+    same-length
+    same-length-2
+    same-length-3
+    same-length-4
+    same-length-5
+    same-length-6
+    returns)

@@ -2,16 +2,19 @@
 use Prim.Native.Nat.{_-_, _≤_}
 use mathlib.Core.Path.{_≡_, ap, _∙_}
 use native.Mathlib.Omega.{arith}
-use Rattle.gateway.specs.State.{gateOf}
+use Rattle.index_rules.specs.Boxes.{Right}
+use Rattle.gateway.specs.State.{gateOf, boxOf}
+use Rattle.gateway.proofs.Lending.{right-next}
+use Rattle.replay.specs.Files.{portIn}
 use Rattle.replay.proofs.Good.{good-file}
-use Rattle.replay.proofs.Walk.{AtEntry, entry-first, entry-body, entry-within, entry-next}
+use Rattle.replay.proofs.Walk.{AtEntry, started-right, entry-first, entry-body, entry-within, entry-next}
 use Rattle.reasons.specs.Lines.{leftAfter}
 use Rattle.reasons.proofs.Leaving.{left-none, left-next}
 use Rattle.reasons.proofs.entries.left_after.Statement.{statement}
 use Rattle.reasons.proofs.entries.left_after.Tie as tie
 
 abbrev Inv-loop : tie.InvT-loop
-Inv-loop file count g₀ all at₀ i₀ g at i = AtEntry file i at × (i ≤ count) × (gateOf g ≡ leftAfter i file)
+Inv-loop file count g₀ all at₀ i₀ g at i = AtEntry file i at × (i ≤ count) × (gateOf g ≡ leftAfter i file) × Right (boxOf g)
 
 abbrev μ-loop : tie.MeasureT-loop
 μ-loop file count g₀ all at₀ i₀ g at i = count - i
@@ -30,7 +33,9 @@ add-at c = omega (arith, good-file _ (c .before .before .before .before .pre .0)
 
 loop-holds : tie.Need-loop-holds Inv-loop μ-loop
 loop-holds c =
-    (entry-first (c .before .before .before .before .args .file .now) (c .read-at .ensures), omega arith, left-none (c .before .before .before .before .args .file .now) (c .before .before .start .result) (c .before .before .start .ensures))
+    let a = c .before .before .start .result in
+    let s = c .before .before .before .before .args .file .now in
+    (entry-first s (c .read-at .ensures), omega arith, left-none s a (c .before .before .start .ensures), started-right a (c .before .before .start .ensures))
 
 mul-entry : tie.Need-mul-entry Inv-loop μ-loop
 mul-entry c = omega (arith, good-file _ (c .before .before .before .before .before .before .pre .0) .count, c .before .before .before .before .before .before .pre .1, c .loop-test .taken)
@@ -73,14 +78,17 @@ loop-less c = omega (arith, c .before .before .before .before .before .loop-test
 
 loop-again : tie.Need-loop-again Inv-loop μ-loop
 loop-again c =
-    let i = c .before .before .before .before .before .before .loop .i in
-    let entry = c .before .before .before .before .before .before .loop .inv .0 in
-    (entry-next entry (c .before .before .before .read-at2 .ensures) (omega (arith, c .before .before .before .before .before .before .before .before .before .before .before .pre .1, c .before .before .before .before .before .loop-test .taken)), omega (arith, c .before .before .before .before .before .loop-test .taken), left-next (c .before .before .before .before .before .before .before .before .before .before .before .args .file .now) i (c .before .receive .result) (c .before .before .before .before .before .before .loop .inv .2) (entry-body entry (c .before .before .before .read-at2 .ensures)) (c .before .receive .ensures .0))
+    let s = c .before .before .before .before .before .before .before .before .before .before .before .args .file .now in
+    let l = c .before .before .before .before .before .before .loop in
+    let entry = l .inv .0 in
+    let b = boxOf (l .g) in
+    let w = c .before .receive in
+    (entry-next entry (c .before .before .before .read-at2 .ensures) (omega (arith, c .before .before .before .before .before .before .before .before .before .before .before .pre .1, c .before .before .before .before .before .loop-test .taken)), omega (arith, c .before .before .before .before .before .loop-test .taken), left-next s (l .i) b (w .result) (l .inv .3) (l .inv .2) (entry-body entry (c .before .before .before .read-at2 .ensures)) (w .ensures .0), right-next b (portIn s (l .i)) _ (l .inv .3) (w .ensures .0))
 
 returns : tie.Need-returns Inv-loop μ-loop
 returns c =
     let all : c .before .loop .i ≡ c .before .before .before .before .before .before .args .count = omega (arith, c .before .loop .inv .1, c .loop-test .left) in
-    c .before .loop .inv .2 ∙ ap (λ n. leftAfter n (c .before .before .before .before .before .before .args .file .now)) all
+    (c .before .loop .inv .2 ∙ ap (λ n. leftAfter n (c .before .before .before .before .before .before .args .file .now)) all, c .before .loop .inv .3)
 
 pub left-after-spec : {M : Type 1} → statement M
 left-after-spec =

@@ -4,7 +4,7 @@ use mathlib.Core.Path.{_≡_, ap, _∙_}
 use Rattle.text.specs.Text.{decimal, space, filled, endOf}
 use Rattle.text.proofs.Laws.{remains-first, remains-next, remains-last}
 use Rattle.gateway_rules.specs.Reasons.{numberIn, whyTold}
-use Rattle.gateway.specs.State.{gateIn, held}
+use Rattle.gateway.specs.State.{gateIn, held, indexHeld}
 use Rattle.gateway.proofs.Lending.{whole-why}
 use Rattle.reasons.specs.Lines.{lineOf}
 use borrow.Author.Needs.{needs}
@@ -44,13 +44,14 @@ same-length c = search needs
 returns : tie.Need-returns
 unfolding lineOf
 returns c =
-    let a = c .before .before .before .before .before .before .before .before .before .before .before .before .before .before .before .before .before .before .before .before .before .before .before .before .before .before .args in
+    let a = c .before .before .before .before .before .before .before .before .before .before .before .before .before .before .before .before .before .before .before .before .before .before .before .before .before .before .before .before .args in
     let t = held (a .nodes) (a .starts) (a .ports) (a .sizes) in
     let e1 = c .before .before .before .before .before .before .before .before .before .before .before .before .before .before .before .before .put-decimal .ensures in
     let e2 = c .before .before .before .before .before .before .before .before .before .before .before .put .ensures in
     let e3 = c .before .before .before .before .before .before .before .put-decimal2 .ensures in
     let n = c .before .before .before .before .before .before .before .before .before .before .before .before .before .before .before .before .before .before .number-of .result in
-    let told : n ≡ numberIn (whyTold (gateIn (a .head) t) (a .port) (a .asked) (a .bytes .now)) = c .before .before .before .before .before .before .before .before .before .before .before .before .before .before .before .before .before .before .number-of .ensures ∙ ap numberIn (c .before .before .before .before .before .before .before .before .before .before .before .before .before .before .before .before .before .before .before .why .ensures ∙ whole-why (a .head) t (a .port) (a .bytes .now) (a .asked) (c .before .before .before .before .before .before .before .before .before .before .before .before .before .before .before .before .before .before .before .before .before .before .before .before .before .before .pre)) in
+    let same = whole-why (a .head) t (indexHeld (a .order) (a .sets)) (a .port) (a .bytes .now) (a .asked) (c .before .before .before .before .before .before .before .before .before .before .before .before .before .before .before .before .before .before .before .before .before .before .before .before .before .before .before .before .pre .0 .0) (c .before .before .before .before .before .before .before .before .before .before .before .before .before .before .before .before .before .before .before .before .before .before .before .before .before .before .before .before .pre .0 .1) (c .before .before .before .before .before .before .before .before .before .before .before .before .before .before .before .before .before .before .before .before .before .before .before .before .before .before .before .before .pre .1) in
+    let told : n ≡ numberIn (whyTold (gateIn (a .head) t) (a .port) (a .asked) (a .bytes .now)) = c .before .before .before .before .before .before .before .before .before .before .before .before .before .before .before .before .before .before .number-of .ensures ∙ ap numberIn (c .before .before .before .before .before .before .before .before .before .before .before .before .before .before .before .before .before .before .before .why .ensures ∙ same) in
     let r1 = remains-first (a .at) (decimal (a .asked)) _ (a .text .now) (e1 .0) (e1 .1) in
     let r2 = remains-next space r1 (e2 .0) (e2 .1) in
     let r3 = remains-next (decimal n) r2 (e3 .0) (e3 .1) in

@@ -1,63 +1,68 @@
--- Each turn puts the line of one entry in, and leaves the box's lists 256 long.
+-- Each turn puts the line of one entry in, and leaves the box's lists as long as they should be and their index right.
 use Prim.Native.Nat.{_-_}
 use mathlib.Core.Path.{sym, ap, _∙_}
 use native.Mathlib.Omega.{arith}
 use borrow.Author.Needs.{needs}
 use Rattle.text.proofs.Laws.{remains-length}
-use Rattle.gateway.specs.State.{lists, listsOf, gateIn, gateOf, Whole}
+use Rattle.index_rules.specs.Boxes.{Right}
+use Rattle.gateway.specs.State.{lists, listsOf, indexLists, indexListsOf, indexIn, gateIn, gateOf, boxIn, Whole}
 use Rattle.gateway.specs.Answers.{seenOf}
-use Rattle.gateway.proofs.Lending.{whole-step}
-use Rattle.replay.proofs.Good.{Good, good-file}
+use Rattle.gateway.specs.Indexing.{WholeIndex}
+use Rattle.gateway.proofs.Lending.{whole-step, right-left}
+use Rattle.replay.proofs.Good.{good-file}
 use Rattle.replay.proofs.Walk.{entry-within}
 use Rattle.replay.proofs.Running.{Running, running-start, running-next, running-end}
 use Rattle.replay.proofs.entries.from.Statement.{statement}
 use Rattle.replay.proofs.entries.from.Tie as tie
 
 abbrev Inv-loop : tie.InvT-loop
-Inv-loop file text₀ head₀ nodes₀ starts₀ ports₀ sizes₀ next₀ count at₀ i₀ text head nodes starts ports sizes next at i =
+Inv-loop file text₀ head₀ nodes₀ starts₀ ports₀ sizes₀ order₀ sets₀ next₀ count at₀ i₀ text head nodes starts ports sizes order sets next at i =
     Running (gateIn head₀ (lists nodes₀ starts₀ ports₀ sizes₀)) file next₀ text₀ i at (gateIn head (lists nodes starts ports sizes)) next text
     × Whole (lists nodes starts ports sizes)
+    × WholeIndex (indexLists order sets)
+    × Right (boxIn head (lists nodes starts ports sizes) (indexLists order sets))
 
 abbrev μ-loop : tie.MeasureT-loop
-μ-loop file text₀ head₀ nodes₀ starts₀ ports₀ sizes₀ next₀ count at₀ i₀ text head nodes starts ports sizes next at i = count - i
-
-good : (p : tie.Start Inv-loop μ-loop) → Good (p .args .file .now)
-good p = good-file (p .args .file .now) (p .pre .0)
+μ-loop file text₀ head₀ nodes₀ starts₀ ports₀ sizes₀ order₀ sets₀ next₀ count at₀ i₀ text head nodes starts ports sizes order sets next at i = count - i
 
 read-at-requires : tie.Need-read-at-requires Inv-loop μ-loop
 read-at-requires c κs = tt
 
 mul-at : tie.Need-mul-at Inv-loop μ-loop
-mul-at c = omega (arith, good (c .before .before .before .before .before .before .before .before) .count, c .read-at .ensures)
+mul-at c = omega (arith, good-file (c .before .before .before .before .before .before .before .before .before .before .args .file .now) (c .before .before .before .before .before .before .before .before .before .before .pre .1 .0) .count, c .read-at .ensures)
 
 add-at : tie.Need-add-at Inv-loop μ-loop
-add-at c = omega (arith, good (c .before .before .before .before .before .before .before .before) .count, c .read-at .ensures)
+add-at c = omega (arith, good-file (c .before .before .before .before .before .before .before .before .before .before .args .file .now) (c .before .before .before .before .before .before .before .before .before .before .pre .1 .0) .count, c .read-at .ensures)
 
 loop-holds : tie.Need-loop-holds Inv-loop μ-loop
 loop-holds c =
-    let p = c .before .before .before .before .before .before .before .before in
-    let a = p .args in
-    let all : Whole (listsOf (a .gateway)) = (search (needs, p .good .0), search (needs, p .good .0), search (needs, p .good .0), search (needs, p .good .0)) in
-    (running-start (gateOf (a .gateway)) (a .file .now) (a .first) (a .text .now) (c .read-at .ensures) (p .pre .1), all)
+    let a = c .before .before .before .before .before .before .before .before .before .before .args in
+    let all : Whole (listsOf (a .gateway)) = (search (needs, c .before .before .before .before .before .before .before .before .before .before .good .0), search (needs, c .before .before .before .before .before .before .before .before .before .before .good .0), search (needs, c .before .before .before .before .before .before .before .before .before .before .good .0), search (needs, c .before .before .before .before .before .before .before .before .before .before .good .0)) in
+    let both : WholeIndex (indexListsOf (a .gateway)) = (search (needs, c .before .before .before .before .before .before .before .before .before .before .good .0), search (needs, c .before .before .before .before .before .before .before .before .before .before .good .0)) in
+    (running-start (gateOf (a .gateway)) (a .file .now) (a .first) (a .text .now) (c .read-at .ensures) (c .before .before .before .before .before .before .before .before .before .before .pre .1 .1), all, both, c .before .before .before .before .before .before .before .before .before .before .pre .0)
 
 mul-entry : tie.Need-mul-entry Inv-loop μ-loop
-mul-entry c = omega (arith, good (c .before .before .before .before .before .before .before .before .before .before) .count, c .before .before .read-at .ensures, c .loop-test .taken)
+mul-entry c =
+    omega (arith, good-file (c .before .before .before .before .before .before .before .before .before .before .before .before .args .file .now) (c .before .before .before .before .before .before .before .before .before .before .before .before .pre .1 .0) .count, c .before .before .read-at .ensures, c .loop-test .taken)
 
 add-entry : tie.Need-add-entry Inv-loop μ-loop
-add-entry c = omega (arith, good (c .before .before .before .before .before .before .before .before .before .before) .count, c .before .before .read-at .ensures, c .loop-test .taken)
+add-entry c =
+    omega (arith, good-file (c .before .before .before .before .before .before .before .before .before .before .before .before .args .file .now) (c .before .before .before .before .before .before .before .before .before .before .before .before .pre .1 .0) .count, c .before .before .read-at .ensures, c .loop-test .taken)
 
 shared-slice-read-port : tie.Need-shared-slice-read-port Inv-loop μ-loop
-shared-slice-read-port c = omega (arith, good (c .before .before .before .before .before .before .before .before .before .before .before) .table, c .before .before .before .read-at .ensures, c .before .loop-test .taken)
+shared-slice-read-port c =
+    omega (arith, good-file (c .before .before .before .before .before .before .before .before .before .before .before .before .before .args .file .now) (c .before .before .before .before .before .before .before .before .before .before .before .before .before .pre .1 .0) .table, c .before .before .before .read-at .ensures, c .before .loop-test .taken)
 
 add-read-at : tie.Need-add-read-at Inv-loop μ-loop
-add-read-at c = omega (arith, good (c .before .before .before .before .before .before .before .before .before .before .before) .count, c .before .before .before .read-at .ensures, c .before .loop-test .taken)
+add-read-at c =
+    omega (arith, good-file (c .before .before .before .before .before .before .before .before .before .before .before .before .before .args .file .now) (c .before .before .before .before .before .before .before .before .before .before .before .before .before .pre .1 .0) .count, c .before .before .before .read-at .ensures, c .before .loop-test .taken)
 
 read-at-requires-2 : tie.Need-read-at-requires-2 Inv-loop μ-loop
 read-at-requires-2 c κs = tt
 
 add-end : tie.Need-add-end Inv-loop μ-loop
 add-end c =
-    let whole = good (c .before .before .before .before .before .before .before .before .before .before .before .before) in
+    let whole = good-file (c .before .before .before .before .before .before .before .before .before .before .before .before .before .before .args .file .now) (c .before .before .before .before .before .before .before .before .before .before .before .before .before .before .pre .1 .0) in
     omega (arith, whole .size, entry-within (c .before .before .before .loop .inv .0 .entry) (c .read-at2 .ensures) whole (omega (arith, c .before .before .before .before .read-at .ensures, c .before .before .loop-test .taken)))
 
 slice-aggregate-receive-lent : tie.Need-slice-aggregate-receive-lent Inv-loop μ-loop
@@ -72,6 +77,12 @@ slice-aggregate-receive-lent-3 c = sym (c .before .before .before .before .befor
 slice-aggregate-receive-lent-4 : tie.Need-slice-aggregate-receive-lent-4 Inv-loop μ-loop
 slice-aggregate-receive-lent-4 c = sym (c .before .before .before .before .before .before .before .loop .inv .1 .3)
 
+slice-aggregate-receive-lent-5 : tie.Need-slice-aggregate-receive-lent-5 Inv-loop μ-loop
+slice-aggregate-receive-lent-5 c = sym (c .before .before .before .before .before .before .before .before .loop .inv .2 .0)
+
+slice-aggregate-receive-lent-6 : tie.Need-slice-aggregate-receive-lent-6 Inv-loop μ-loop
+slice-aggregate-receive-lent-6 c = sym (c .before .before .before .before .before .before .before .before .before .loop .inv .2 .1)
+
 sub-receive-lent : tie.Need-sub-receive-lent Inv-loop μ-loop
 sub-receive-lent c = omega arith
 
@@ -80,9 +91,7 @@ part-receive-lent-start c = omega arith
 
 part-receive-lent-end : tie.Need-part-receive-lent-end Inv-loop μ-loop
 part-receive-lent-end c =
-    let turn = c .before .before .before .before .before .before in
-    let whole = good (turn .before .before .before .before .before .before .before .before .before .before) in
-    entry-within (turn .before .loop .inv .0 .entry) (c .before .before .before .before .read-at2 .ensures) whole (omega (arith, turn .before .before .read-at .ensures, turn .loop-test .taken))
+    entry-within (c .before .before .before .before .before .before .before .before .before .loop .inv .0 .entry) (c .before .before .before .before .before .before .read-at2 .ensures) (good-file (c .before .before .before .before .before .before .before .before .before .before .before .before .before .before .before .before .before .before .before .before .args .file .now) (c .before .before .before .before .before .before .before .before .before .before .before .before .before .before .before .before .before .before .before .before .pre .1 .0)) (omega (arith, c .before .before .before .before .before .before .before .before .before .before .read-at .ensures, c .before .before .before .before .before .before .before .before .loop-test .taken))
 
 receive-lent-requires : tie.Need-receive-lent-requires Inv-loop μ-loop
 receive-lent-requires c κs = tt
@@ -92,19 +101,21 @@ put-requires c κs = tt
 
 add-i : tie.Need-add-i Inv-loop μ-loop
 add-i c =
-    let turn = c .before .before .before .before .before .before .before .before .before .before .before .before .before .before .before .before in
-    omega (arith, good (turn .before .before .before .before .before .before .before .before .before .before) .count, turn .before .before .read-at .ensures, turn .loop-test .taken)
+    omega (arith, good-file (c .before .before .before .before .before .before .before .before .before .before .before .before .before .before .before .before .before .before .before .before .before .before .before .before .before .before .before .before .before .before .before .before .args .file .now) (c .before .before .before .before .before .before .before .before .before .before .before .before .before .before .before .before .before .before .before .before .before .before .before .before .before .before .before .before .before .before .before .before .pre .1 .0) .count, c .before .before .before .before .before .before .before .before .before .before .before .before .before .before .before .before .before .before .before .before .before .before .read-at .ensures, c .before .before .before .before .before .before .before .before .before .before .before .before .before .before .before .before .before .before .before .before .loop-test .taken)
 
 loop-less : tie.Need-loop-less Inv-loop μ-loop
-loop-less c = omega (arith, c .before .before .before .before .before .before .before .before .before .before .before .before .before .before .before .before .loop-test .taken)
+loop-less c = omega (arith, c .before .before .before .before .before .before .before .before .before .before .before .before .before .before .before .before .before .before .before .before .loop-test .taken)
 
 loop-again : tie.Need-loop-again Inv-loop μ-loop
 loop-again c =
-    let turn = c .before .before .before .before .before .before .before .before .before .before .before .before .before .before in
-    let l = turn .before .before .before .loop in
+    let l = c .before .before .before .before .before .before .before .before .before .before .before .before .before .before .before .before .before .before .before .before .before .loop in
     let t = lists (l .nodes) (l .starts) (l .ports) (l .sizes) in
-    let stepped = ap seenOf (whole-step (l .head) t _ _ (l .inv .1)) in
-    (running-next (l .inv .0) (l .head) (c .before .before .before .before .before .before .before .before .receive-lent .result) _ (omega (arith, turn .before .before .before .before .read-at .ensures, turn .before .before .loop-test .taken)) (turn .read-at2 .ensures) (c .before .before .before .before .before .before .before .before .receive-lent .ensures .0 ∙ stepped) (c .before .before .put .ensures .0) (c .before .before .put .ensures .1), (c .before .before .before .before .before .before .before .nodes3 .given, c .before .before .before .before .before .before .starts3 .given, c .before .before .before .before .before .ports3 .given, c .before .before .before .before .sizes3 .given))
+    let x = indexLists (l .order) (l .sets) in
+    let w = c .before .before .before .before .before .before .before .before .before .before .receive-lent in
+    let after = lists (w .last .1 .0) (w .last .1 .1 .0) (w .last .1 .1 .1 .0) (w .last .1 .1 .1 .1 .0) in
+    let left = indexLists (w .last .1 .1 .1 .1 .1 .0) (w .last .1 .1 .1 .1 .1 .1 .0) in
+    let stepped = ap (seenOf (indexIn (l .head .count) x)) (whole-step (l .head) t x _ _ (l .inv .1) (l .inv .2) (l .inv .3)) in
+    (running-next (l .inv .0) (l .head) (w .result) after left (indexIn (l .head .count) x) (omega (arith, c .before .before .before .before .before .before .before .before .before .before .before .before .before .before .before .before .before .before .before .before .before .before .read-at .ensures, c .before .before .before .before .before .before .before .before .before .before .before .before .before .before .before .before .before .before .before .before .loop-test .taken)) (c .before .before .before .before .before .before .before .before .before .before .before .before .before .before .before .before .before .before .read-at2 .ensures) (w .ensures .0 ∙ stepped) (c .before .before .put .ensures .0) (c .before .before .put .ensures .1), (c .before .before .before .before .before .before .before .before .before .nodes3 .given, c .before .before .before .before .before .before .before .before .starts3 .given, c .before .before .before .before .before .before .before .ports3 .given, c .before .before .before .before .before .before .sizes3 .given), (c .before .before .before .before .before .order3 .given, c .before .before .before .before .sets3 .given), right-left (l .head) t x _ _ (w .result) after left (l .inv .1) (l .inv .2) (l .inv .3) (w .ensures .0))
 
 same-length : tie.Need-same-length Inv-loop μ-loop
 same-length c = remains-length (c .before .loop .inv .0 .rest)
@@ -132,6 +143,8 @@ from-spec =
     slice-aggregate-receive-lent-2
     slice-aggregate-receive-lent-3
     slice-aggregate-receive-lent-4
+    slice-aggregate-receive-lent-5
+    slice-aggregate-receive-lent-6
     sub-receive-lent
     part-receive-lent-start
     part-receive-lent-end

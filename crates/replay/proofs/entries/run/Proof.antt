@@ -5,7 +5,7 @@ use Rattle.text.specs.Text.{filled, endOf}
 use Rattle.gateway_rules.specs.State.{Gate}
 use Rattle.replay.specs.Files.{entryCount}
 use Rattle.replay.specs.Lines.{linesFrom}
-use Rattle.replay.proofs.Walk.{started}
+use Rattle.replay.proofs.Walk.{started, started-right}
 use Rattle.replay.proofs.entries.run.Statement.{statement}
 use Rattle.replay.proofs.entries.run.Tie as tie
 
@@ -13,7 +13,7 @@ start-requires : tie.Need-start-requires
 start-requires c κs = search needs
 
 from-requires : tie.Need-from-requires
-from-requires c κs = search needs
+from-requires c κs = (started-right (c .before .before .start .result) (c .before .before .start .ensures), (search needs, search needs))
 
 same-length : tie.Need-same-length
 same-length c = search needs
