@@ -10,6 +10,7 @@ ghost use Rattle.gateway.specs.Answers.{AnnouncesBlock};
 ghost use Rattle.gateway.specs.Indexing.{IndexFits, WholeIndex};
 use crate::Head;
 use crate::lines;
+use crate::lines::Gone;
 use crate::lines::Standing;
 use crate::port_sets;
 use crate::table;
@@ -77,7 +78,16 @@ fn restart(
     ensures { λ r. ⌜ IndexFits (r .count) (left nodes starts ports sizes) (indexLeft order sets) ⌝ }
 {
     let marks = head.marks;
-    let count = table::without_node(head.count, nodes, starts, ports, sizes, order, sets, node);
+    let count = table::remove(
+        head.count,
+        nodes,
+        starts,
+        ports,
+        sizes,
+        order,
+        sets,
+        Gone::OfNode(node),
+    );
     Left { marks, count }
 }
 
@@ -122,7 +132,16 @@ fn replace(
     ensures { λ r. ⌜ gateAfter head r (left nodes starts ports sizes) ≡ replacing (gateIn head (entered nodes starts ports sizes)) l ⌝ }
     ensures { λ r. ⌜ IndexFits (r .count) (left nodes starts ports sizes) (indexLeft order sets) ⌝ }
 {
-    let kept = table::without_held(head.count, nodes, starts, ports, sizes, order, sets, l);
+    let kept = table::remove(
+        head.count,
+        nodes,
+        starts,
+        ports,
+        sizes,
+        order,
+        sets,
+        Gone::HeldBy(l),
+    );
     table::add(kept, nodes, starts, ports, sizes, order, sets, l);
     Left {
         marks: head.marks,

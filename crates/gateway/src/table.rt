@@ -1,11 +1,8 @@
 // The table with its index: lines taken out, and one added.
 ghost use mathlib.Core.Path.{_≡_};
-ghost use mathlib.Core.Bool.{true, false};
 ghost use Prim.Native.Nat.{_+_, _≤_, _<_};
-ghost use Rattle.range.specs.Range.{isBlock};
-ghost use Rattle.basics.specs.Lists.{any, without};
-ghost use Rattle.gateway_rules.specs.Step.{heldBy, ofNode};
-ghost use Rattle.gateway.specs.State.{Whole, linesIn, putAt, noBlock, held, entered, left, indexHeld, indexLeft};
+ghost use Rattle.basics.specs.Lists.{without};
+ghost use Rattle.gateway.specs.State.{Whole, linesIn, putAt, held, entered, left, indexHeld, indexLeft};
 ghost use Rattle.gateway.specs.Answers.{goesBy, Comparable};
 ghost use Rattle.gateway.specs.Indexing.{Sized, IndexFits, WholeIndex};
 use crate::index;
@@ -13,70 +10,8 @@ use crate::lines;
 use crate::lines::Gone;
 use gateway_rules::Line;
 
-// Takes a node's lines out, and answers how many stay.
-pub(crate) fn without_node(
-    count: usize,
-    nodes: &mut [u64],
-    starts: &mut [u64],
-    ports: &mut [u8],
-    sizes: &mut [u8],
-    order: &mut [u8],
-    sets: &mut [u64],
-    node: u64,
-) -> usize
-    requires { ⌜ count ≤ 256 ⌝ }
-    requires { ⌜ Whole (held nodes starts ports sizes) × WholeIndex (indexHeld order sets) ⌝ }
-    requires { ⌜ Sized count (now ports) (now sizes) ⌝ }
-    requires { ⌜ IndexFits count (held nodes starts ports sizes) (indexHeld order sets) ⌝ }
-    ensures { λ kept. ⌜ linesIn kept (left nodes starts ports sizes) ≡ without (ofNode node) (linesIn count (entered nodes starts ports sizes)) ⌝ }
-    ensures { λ kept. ⌜ IndexFits kept (left nodes starts ports sizes) (indexLeft order sets) ⌝ }
-{
-    remove(
-        count,
-        nodes,
-        starts,
-        ports,
-        sizes,
-        order,
-        sets,
-        Gone::OfNode(node),
-    )
-}
-
-// Takes the lines out that one holds, and answers how many stay.
-pub(crate) fn without_held(
-    count: usize,
-    nodes: &mut [u64],
-    starts: &mut [u64],
-    ports: &mut [u8],
-    sizes: &mut [u8],
-    order: &mut [u8],
-    sets: &mut [u64],
-    l: Line,
-) -> usize
-    requires { ⌜ count ≤ 256 ⌝ }
-    requires { ⌜ Whole (held nodes starts ports sizes) × WholeIndex (indexHeld order sets) ⌝ }
-    requires { ⌜ Sized count (now ports) (now sizes) ⌝ }
-    requires { ⌜ IndexFits count (held nodes starts ports sizes) (indexHeld order sets) ⌝ }
-    requires { ⌜ isBlock (l .block) ≡ true ⌝ }
-    requires { ⌜ any noBlock (linesIn count (held nodes starts ports sizes)) ≡ false ⌝ }
-    ensures { λ kept. ⌜ linesIn kept (left nodes starts ports sizes) ≡ without (heldBy l) (linesIn count (entered nodes starts ports sizes)) ⌝ }
-    ensures { λ kept. ⌜ IndexFits kept (left nodes starts ports sizes) (indexLeft order sets) ⌝ }
-{
-    remove(
-        count,
-        nodes,
-        starts,
-        ports,
-        sizes,
-        order,
-        sets,
-        Gone::HeldBy(l),
-    )
-}
-
-// One pass over the lines, which says by how much each number falls, and one over the index.
-fn remove(
+// Takes lines out, and answers how many stay: one pass over the lines, which says by how much each number falls, and one over the index.
+pub(crate) fn remove(
     count: usize,
     nodes: &mut [u64],
     starts: &mut [u64],

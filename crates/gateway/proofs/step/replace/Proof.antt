@@ -22,8 +22,8 @@ room-for : (head : Head) (t : Lists) (l : Line) (after : Lists) (kept : ℕ) →
     → linesIn kept after ≡ without (heldBy l) (linesIn (head .count) t) → holdsSome (linesIn (head .count) t) l ≡ true → kept < 256
 room-for head t l after kept good e some = omega (arith, fewer-kept head t l after kept e some, few-lines head (head-good head t good))
 
-without-held-requires : tie.Need-without-held-requires
-without-held-requires c κs =
+remove-requires : tie.Need-remove-requires
+remove-requires c κs =
     let a = c .before .before .before .before .before .before .before .before .before .before .before .before .args in
     let pre = c .before .before .before .before .before .before .before .before .before .before .before .before .pre in
     let t = held (a .nodes) (a .starts) (a .ports) (a .sizes) in
@@ -34,18 +34,18 @@ add-requires c κs =
     let a = c .before .before .before .before .before .before .before .before .before .before .before .before .before .before .before .before .before .before .before .before .before .before .before .before .before .before .before .before .before .before .before .args in
     let pre = c .before .before .before .before .before .before .before .before .before .before .before .before .before .before .before .before .before .before .before .before .before .before .before .before .before .before .before .before .before .before .before .pre in
     let t = held (a .nodes) (a .starts) (a .ports) (a .sizes) in
-    let w = c .before .before .before .before .before .before .before .before .before .before .before .before .before .before .before .before .before .before .without-held in
+    let w = c .before .before .before .before .before .before .before .before .before .before .before .before .before .before .before .before .before .before .remove in
     let after = lists (w .last .1 .0) (w .last .1 .1 .0) (w .last .1 .1 .1 .0) (w .last .1 .1 .1 .1 .0) in
     let room = room-for (a .head) t (a .l) after (w .result) (pre .1 .1 .0) (w .ensures .0) (pre .1 .1 .1 .2) in
     let all : Whole after = (w .kept .1 .0 ∙ pre .0 .0 .0, w .kept .1 .1 .0 ∙ pre .0 .0 .1, w .kept .1 .1 .1 .0 ∙ pre .0 .0 .2, w .kept .1 .1 .1 .1 .0 ∙ pre .0 .0 .3) in
     (room, ((all, (w .kept .1 .1 .1 .1 .1 .0 ∙ pre .0 .1 .0, w .kept .1 .1 .1 .1 .1 .1 .0 ∙ pre .0 .1 .1)), ((le-trans (pre .1 .1 .1 .0) (few-ports (a .head) (head-good (a .head) t (pre .1 .1 .0))), block-parts (a .l .block) (pre .1 .1 .1 .1) .0), w .ensures .1)))
 
-add-t35 : tie.Need-add-t35
-add-t35 c =
+add-t36 : tie.Need-add-t36
+add-t36 c =
     let a = c .before .before .before .before .before .before .before .before .before .before .before .before .before .before .before .before .before .before .before .before .before .before .before .before .before .before .before .before .before .before .before .before .before .before .before .before .before .before .before .before .before .before .before .before .args in
     let pre = c .before .before .before .before .before .before .before .before .before .before .before .before .before .before .before .before .before .before .before .before .before .before .before .before .before .before .before .before .before .before .before .before .before .before .before .before .before .before .before .before .before .before .before .before .pre in
     let t = held (a .nodes) (a .starts) (a .ports) (a .sizes) in
-    let w = c .before .before .before .before .before .before .before .before .before .before .before .before .before .before .before .before .before .before .before .before .before .before .before .before .before .before .before .before .before .before .before .without-held in
+    let w = c .before .before .before .before .before .before .before .before .before .before .before .before .before .before .before .before .before .before .before .before .before .before .before .before .before .before .before .before .before .before .before .remove in
     let after = lists (w .last .1 .0) (w .last .1 .1 .0) (w .last .1 .1 .1 .0) (w .last .1 .1 .1 .1 .0) in
     omega (arith, room-for (a .head) t (a .l) after (w .result) (pre .1 .1 .0) (w .ensures .0) (pre .1 .1 .1 .2))
 
@@ -72,7 +72,7 @@ returns c =
     let a = c .before .before .before .before .before .before .before .before .before .before .before .before .before .before .before .before .before .before .before .before .before .before .before .before .before .before .before .before .before .before .before .before .before .before .before .before .before .before .before .before .before .before .before .before .args in
     let pre = c .before .before .before .before .before .before .before .before .before .before .before .before .before .before .before .before .before .before .before .before .before .before .before .before .before .before .before .before .before .before .before .before .before .before .before .before .before .before .before .before .before .before .before .before .pre in
     let t = held (a .nodes) (a .starts) (a .ports) (a .sizes) in
-    let w = c .before .before .before .before .before .before .before .before .before .before .before .before .before .before .before .before .before .before .before .before .before .before .before .before .before .before .before .before .before .before .before .without-held in
+    let w = c .before .before .before .before .before .before .before .before .before .before .before .before .before .before .before .before .before .before .before .before .before .before .before .before .before .before .before .before .before .before .before .remove in
     let after = lists (w .last .1 .0) (w .last .1 .1 .0) (w .last .1 .1 .1 .0) (w .last .1 .1 .1 .1 .0) in
     let room = room-for (a .head) t (a .l) after (w .result) (pre .1 .1 .0) (w .ensures .0) (pre .1 .1 .1 .2) in
     let all : Whole after = (w .kept .1 .0 ∙ pre .0 .0 .0, w .kept .1 .1 .0 ∙ pre .0 .0 .1, w .kept .1 .1 .1 .0 ∙ pre .0 .0 .2, w .kept .1 .1 .1 .1 .0 ∙ pre .0 .0 .3) in
@@ -82,9 +82,9 @@ pub replace-spec : {M : Type 1} → statement M
 replace-spec =
     tie.close
     (tie.spec
-    without-held-requires
+    remove-requires
     add-requires
-    add-t35
+    add-t36
     same-length
     same-length-2
     same-length-3

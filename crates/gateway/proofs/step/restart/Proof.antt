@@ -15,12 +15,12 @@ restarted : (head : Head) (t after : Lists) (count node : ℕ) → linesIn count
 unfolding gateIn
 restarted head t after count node e = λ i. record { ports = head .ports; automatic = head .automatic; lines = e i; marked = gateIn head t .marked }
 
-without-node-requires : tie.Need-without-node-requires
-without-node-requires c κs =
+remove-requires : tie.Need-remove-requires
+remove-requires c κs =
     let a = c .before .before .before .before .before .before .before .before .before .before .before .before .args in
     let pre = c .before .before .before .before .before .before .before .before .before .before .before .before .pre in
     let t = held (a .nodes) (a .starts) (a .ports) (a .sizes) in
-    (few-lines (a .head) (head-good (a .head) t (pre .1 .1)), (pre .0, (lines-sized (a .head) t (pre .1 .1), pre .1 .0)))
+    (few-lines (a .head) (head-good (a .head) t (pre .1 .1)), (pre .0, (lines-sized (a .head) t (pre .1 .1), (pre .1 .0, tt))))
 
 same-length : tie.Need-same-length
 same-length c = search needs
@@ -44,13 +44,13 @@ returns : tie.Need-returns
 returns c =
     let a = c .before .before .before .before .before .before .before .before .before .before .before .before .before .before .before .before .before .before .before .before .before .before .before .before .before .args in
     let t = held (a .nodes) (a .starts) (a .ports) (a .sizes) in
-    (restarted (a .head) t _ (c .before .before .before .before .before .before .before .before .before .before .before .before .without-node .result) (a .node) (c .before .before .before .before .before .before .before .before .before .before .before .before .without-node .ensures .0), c .before .before .before .before .before .before .before .before .before .before .before .before .without-node .ensures .1)
+    (restarted (a .head) t _ (c .before .before .before .before .before .before .before .before .before .before .before .before .remove .result) (a .node) (c .before .before .before .before .before .before .before .before .before .before .before .before .remove .ensures .0), c .before .before .before .before .before .before .before .before .before .before .before .before .remove .ensures .1)
 
 pub restart-spec : {M : Type 1} → statement M
 restart-spec =
     tie.close
     (tie.spec
-    without-node-requires
+    remove-requires
     same-length
     same-length-2
     same-length-3
