@@ -157,7 +157,7 @@ typedef struct {
     size_t count;
 } hrislanoth_lent_answer;
 
-/* A box with no lines, no open marks and an empty index, every place of order and sets 0. 8 where ports is not 2 to 8: the box then has 0 ports, and every call refuses it with 7. */
+/* A box with no lines, no open marks and the index of no lines. 8 where ports is not 2 to 8: the box then has 0 ports, and every call refuses it with 7. */
 hrislanoth_answer hrislanoth_start(uint8_t ports, uint64_t automatic);
 
 /* A message at a port. 7 where the box is out of bounds or its index is another than that of its lines, 8 where it has no such port, 1 to 5 where the message cannot be read. An Initialization Complete

@@ -7,13 +7,10 @@ use lib.Dec.{eqb}
 use lib.ListN.{length}
 use Rattle.range.specs.declared.Block.{Block}
 use Rattle.range.specs.Range.{isBlock, inBlock}
-use Rattle.basics.specs.Lists.{any, firstOr}
+use Rattle.basics.specs.Lists.{any}
 use Rattle.basics.specs.Sets.{setOf, inSet}
-use Rattle.message.specs.declared.Reading.{Reading}
 use Rattle.message.specs.declared.Saying.{Saying}
 use Rattle.message.specs.declared.Saying.the-variants.{Report, Announcement, Restart, Inquiry, InquiryForAll, Learn, Nothing}
-use Rattle.message.specs.Reading.{readingTold}
-use Rattle.message.specs.Saying.{saidBy}
 use Rattle.gateway_rules.specs.declared.Line.{Line}
 use Rattle.gateway_rules.specs.State.{Gate, full, outOfBounds}
 use Rattle.gateway_rules.specs.Step.{Outcome, covered, heldBy, holdsSome, lineHolds, ofNode, wantedAt, refusing}
@@ -75,10 +72,6 @@ abbrev pub outside : Head → Lists → IndexLists → Bool
 outside h t x = badLists t x || (outOfBounds (gateIn h t) || strays (indexIn (h .count) x) (linesIn (h .count) t))
 
 -- ---- what the parts of the code work on
-
--- What is said by bytes that were read; a refusal says nothing.
-abbrev pub saidIn : Reading → Saying
-saidIn r = firstOr Nothing saidBy (readingTold r .value)
 
 -- The ports that want what is said, as a number.
 abbrev pub wantedBy : Gate → Saying → ℕ

@@ -35,7 +35,7 @@ pub struct Answer {
     pub gateway: Gateway,
 }
 
-// The same where the lines stand in lent lists: the open marks and the line count are what else can change.
+// The same where the lines and their index stand in lent lists: the open marks and the line count are what else can change.
 #[repr(C)]
 pub struct LentAnswer {
     pub refusal: u8,
