@@ -12,8 +12,8 @@ use Rattle.gateway_rules.specs.Reasons.{whyTold}
 use Rattle.index_rules.specs.Boxes.{Box, boxStep, strays}
 use Rattle.gateway.specs.declared.state.Head.{Head}
 use Rattle.gateway.specs.declared.state.Gateway.{Gateway}
-use Rattle.gateway.specs.State.{Lists, IndexLists, lineAt, linesIn, firstNumbers, gateIn, boxIn, boxOf, listsOf, indexListsOf, SameToTheCount, SameLengths}
-use Rattle.gateway.specs.Answers.{badLengths, badIndexLengths, badLists, lentStep}
+use Rattle.gateway.specs.State.{Lists, IndexLists, lineAt, linesIn, firstNumbers, gateIn, indexIn, boxIn, boxOf, listsOf, indexListsOf, SameToTheCount, SameLengths}
+use Rattle.gateway.specs.Answers.{seenOf, badLengths, badIndexLengths, badLists, lentStep}
 use Rattle.gateway.specs.Asking.{lentWhy}
 use Rattle.gateway.specs.Indexing.{entryIn}
 
@@ -31,10 +31,10 @@ module _ (h k : Head) (t u : Lists) (x y : IndexLists) (s : SameToTheCount h t x
         index = record { order = numbers i; sets = s .sets i };
       }
 
-  -- Heads with lent lists of the same lengths that differ only there get the same answers and the same next state.
-  pub past-the-count-lent : SameLengths t x u y → (q : ℕ) (bytes : List ℕ) → lentStep h t x q bytes ≡ lentStep k u y q bytes
+  -- Heads with lent lists of the same lengths that differ only there get the same answers, the same next state and the same index.
+  pub past-the-count-lent : SameLengths t x u y → (q : ℕ) (bytes : List ℕ) → seenOf (indexIn (h .count) x) (lentStep h t x q bytes) ≡ seenOf (indexIn (k .count) y) (lentStep k u y q bytes)
   past-the-count-lent l q bytes =
-      λ i. cond (same-lengths t u x y l (s .sets) i) (refusing (same-box i .gate) 7) (boxStep (same-box i) q bytes)
+      λ i. seenOf (same-box i .index) (cond (same-lengths t u x y l (s .sets) i) (refusing (same-box i .gate) 7) (boxStep (same-box i) q bytes))
 
   -- And so does whoever asks why.
   pub past-the-count-why : SameLengths t x u y → (q p : ℕ) (bytes : List ℕ) → lentWhy h t x q p bytes ≡ lentWhy k u y q p bytes
@@ -44,5 +44,5 @@ module _ (h k : Head) (t u : Lists) (x y : IndexLists) (s : SameToTheCount h t x
 
 -- So do states by value.
 pub past-the-count : (a b : Gateway) → SameToTheCount (a .head) (listsOf a) (indexListsOf a) (b .head) (listsOf b) (indexListsOf b) → (q : ℕ) (bytes : List ℕ)
-    → boxStep (boxOf a) q bytes ≡ boxStep (boxOf b) q bytes
-past-the-count a b s q bytes = ap (λ (g : Box). boxStep g q bytes) (same-box (a .head) (b .head) (listsOf a) (listsOf b) (indexListsOf a) (indexListsOf b) s)
+    → seenOf (boxOf a .index) (boxStep (boxOf a) q bytes) ≡ seenOf (boxOf b .index) (boxStep (boxOf b) q bytes)
+past-the-count a b s q bytes = ap (λ (g : Box). seenOf (g .index) (boxStep g q bytes)) (same-box (a .head) (b .head) (listsOf a) (listsOf b) (indexListsOf a) (indexListsOf b) s)

@@ -37,7 +37,7 @@ pub record Seen : Type 0 where
 abbrev pub seenIn : Answer → Seen
 seenIn a = record { refusal = a .refusal; sent = a .sent; gate = gateOf (a .gateway); index = boxOf (a .gateway) .index }
 
--- The same of what the rules give, with the index that was there before.
+-- The same of what the rules give: a refusal leaves the index that is given, what is accepted that of its lines.
 abbrev pub seenOf : Index → Outcome → Seen
 seenOf x o = record { refusal = o .refusal; sent = setOf 8 (o .to); gate = o .next; index = indexAfter x o }
 

@@ -1,7 +1,7 @@
 // The box's state, as the code has it.
 use range::Block;
 
-// The state but for the lines themselves. Bit p of marks is the open mark of port p.
+// The state but for the lines and their index. Bit p of marks is the open mark of port p.
 #[repr(C)]
 pub struct Head {
     pub ports: u8,

@@ -10,7 +10,7 @@ use crate::lines;
 use crate::lines::Gone;
 use gateway_rules::Line;
 
-// Takes lines out, and answers how many stay: one pass over the lines, which says by how much each number falls, and one over the index.
+// Takes lines out, and answers how many stay: one pass over the lines, which says by how much each number falls, one over the order, and the sets of those that stay.
 pub(crate) fn remove(
     count: usize,
     nodes: &mut [u64],

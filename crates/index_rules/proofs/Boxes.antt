@@ -1,19 +1,23 @@
 -- A box whose index is that of its table stays one, and does what its gate alone does; any other is refused with 7, and nothing changes.
-use Prim.Native.Nat.{ℕ}
-use mathlib.Core.Path.{_≡_, refl, sym, ap, ap₂, _∙_}
+use Prim.Native.Nat.{ℕ, _<_}
+use mathlib.Core.Path.{_≡_, refl, sym, ap, ap₂, _∙_, subst}
+use mathlib.Core.Logic.{_↔_}
 use mathlib.Core.Bool.{Bool, true, false, cond, not}
 use mathlib.Core.List.{List, [], _∷_}
 use borrow.Author.Tests.{eqb-false, not-false}
 use lib.Dec.{eqb}
 use Rattle.basics.proofs.Bools.{both}
 use Rattle.gateway_rules.specs.declared.Line.{Line}
-use Rattle.gateway_rules.specs.State.{Gate}
-use Rattle.gateway_rules.specs.Step.{Outcome, refusing, step}
-use Rattle.gateway_rules.specs.History.{Entry, after}
+use Rattle.basics.specs.Refusals.{refuse, firstOf, answered}
+use Rattle.message.specs.Reading.{messageIn}
+use Rattle.gateway_rules.specs.State.{Gate, badPorts, startOf}
+use Rattle.gateway_rules.specs.Step.{Outcome, refusing, start, starting, step}
+use Rattle.gateway_rules.specs.History.{Entry, after, accepted, Reports, HeldBack}
+use Rattle.gateway_rules.proofs.Demand3.{demand-3}
 use Rattle.gateway_rules.proofs.Sending.{refused-nothing}
 use Rattle.index_rules.specs.Index.{Index, indexOf}
 use Rattle.index_rules.proofs.Sorted.{same-numbers, same-refl}
-use Rattle.index_rules.specs.Boxes.{Box, Right, strays, boxStep, indexAfter, boxNext, boxAfter}
+use Rattle.index_rules.specs.Boxes.{Box, Right, strays, boxStep, indexAfter, boxNext, startedBox, boxAfter}
 
 -- ---- the test
 
@@ -73,3 +77,25 @@ gate-alone b i [] = refl
 gate-alone b i (e ∷ h) =
     gate-alone (boxNext b (e .port) (e .bytes)) (index-next b (e .port) (e .bytes) i) h
     ∙ ap (λ (o : Outcome). after (o .next) h) (gate-alone-step b (e .port) (e .bytes) i)
+
+-- So does its answer to the next message.
+pub after-alone : (b : Box) → Right b → (h : List Entry) (q : ℕ) (bytes : List ℕ) → boxStep (boxAfter b h) q bytes ≡ step (after (b .gate) h) q bytes
+after-alone b i h q bytes = gate-alone-step (boxAfter b h) q bytes (index-always b i h) ∙ ap (λ (g : Gate). step g q bytes) (gate-alone b i h)
+
+pub started-right : (ports r : ℕ) → Right (startedBox ports r)
+unfolding start
+started-right ports r = sym (ap indexOf (no-lines (badPorts ports)))
+  where
+    no-lines : (t : Bool) → answered (starting 0) (λ n. starting n (startOf 0 r)) (firstOf (refuse 8 t ∷ [])) (startOf ports r) .next .lines ≡ []
+    no-lines true = refl
+    no-lines false = refl
+
+-- Demand 3 of a box with its index: word for word that of `gateway_rules`, with the box's own steps.
+pub demand-3-indexed : (ports r : ℕ) → start ports r .refusal ≡ 0
+    → (h : List Entry) (q : ℕ) (bytes : List ℕ) → boxStep (boxAfter (startedBox ports r) h) q bytes .refusal ≡ 0
+    → (e : ℕ) → Reports e (messageIn bytes) → (p : ℕ) → p < ports → (p ≡ q → ⊥)
+    → (boxStep (boxAfter (startedBox ports r) h) q bytes .to p ≡ false) ↔ HeldBack (start ports r .next) (accepted ports h) p e
+demand-3-indexed ports r s h q bytes taken e report p there other =
+    let alone = after-alone (startedBox ports r) (started-right ports r) h q bytes in
+    subst (λ (o : Outcome). (o .to p ≡ false) ↔ HeldBack (start ports r .next) (accepted ports h) p e) (sym alone)
+    (demand-3 ports r s h q bytes (sym (ap (λ (o : Outcome). o .refusal) alone) ∙ taken) e report p there other)

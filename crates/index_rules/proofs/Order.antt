@@ -23,19 +23,19 @@ module _ {spotAt : ℕ → ℕ} {n : ℕ} {at : ℕ → ℕ} (a : Agrees spotAt 
       (eq-or-lt-of-le (le-of-suc-le-suc l))
 
   -- A number is named by one place only ..
-  pub named-once : Apart n at
-  named-once i j k l e =
+  pub at-one-place : Apart n at
+  at-one-place i j k l e =
       ⊎-elim (λ b. absurd (omega (arith, further-on i j b l, ap (key spotAt) e)))
       (λ b. ⊎-elim sym (λ c. absurd (omega (arith, further-on j i c k, ap (key spotAt) e))) (eq-or-lt-of-le b))
       (less-or-not i j)
 
   -- .. and every number is.
   pub every-named : (p : ℕ) → p < n → Named n at p
-  every-named = all-named n at (a .below) named-once
+  every-named = all-named n at (a .below) at-one-place
 
   -- As many lines stay as places that name one.
   pub as-many-stay : (gone : ℕ → Bool) → rank (λ i. gone (at i)) n ≡ rank gone n
-  as-many-stay = as-many n at (a .below) named-once
+  as-many-stay = as-many n at (a .below) at-one-place
 
   -- A number's place is how many numbers have a smaller key, so it does not depend on the order.
   pub place-of : (i : ℕ) → i < n → rank (λ p. leb (key spotAt (at i)) (key spotAt p)) n ≡ i

@@ -6,7 +6,6 @@ use mathlib.Core.List.{List}
 use native.Mathlib.Omega.{arith}
 use borrow.Author.Tests.{ltb-true, ltb-false}
 use lib.Dec.{ltb}
-use Rattle.basics.specs.Lists.{each}
 use Rattle.basics.specs.Sets.{inSet}
 use Rattle.basics.proofs.Sets.{member-of-set}
 use Rattle.gateway_rules.specs.declared.Line.{Line}

@@ -6,7 +6,7 @@ use mathlib.Core.List.{List, [], _∷_}
 use lib.Dec.{eqb}
 use Rattle.gateway_rules.specs.declared.Line.{Line}
 use Rattle.gateway_rules.specs.State.{Gate}
-use Rattle.gateway_rules.specs.Step.{Outcome, refusing, step}
+use Rattle.gateway_rules.specs.Step.{Outcome, refusing, start, step}
 use Rattle.gateway_rules.specs.History.{Entry}
 use Rattle.index_rules.specs.Index.{Index, indexOf}
 use Rattle.index_rules.specs.Agreeing.{sameNumbers}
@@ -33,6 +33,10 @@ indexAfter x o = cond (eqb (o .refusal) 0) (indexOf (o .next .lines)) x
 
 abbrev pub boxNext : Box → ℕ → List ℕ → Box
 boxNext b q bytes = record { gate = boxStep b q bytes .next; index = indexAfter (b .index) (boxStep b q bytes) }
+
+-- A box as it is started, with the index of no lines.
+abbrev pub startedBox : ℕ → ℕ → Box
+startedBox ports r = record { gate = start ports r .next; index = indexOf [] }
 
 -- The box that a history leaves.
 abbrev pub boxAfter : Box → List Entry → Box
