@@ -11,7 +11,7 @@ const CONSUMER: u8 = 1;
 
 const UNKNOWN: u8 = 2;
 
-#[derive(Drop)]
+#[derive(Clone, Copy)]
 pub(crate) struct Board {
     pub(crate) node: Node,
     pub(crate) roles: [u8; 2],

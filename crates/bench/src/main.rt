@@ -1,4 +1,6 @@
 // The bench: two boards on one leg of a box, restarted in turn, one of them then carried to another leg, and a panel that tries them after each step.
+#![tactic(auto)]
+
 mod boards;
 mod words;
 mod yard;

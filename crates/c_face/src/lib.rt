@@ -1,4 +1,6 @@
 // The proved functions for C and for what links with C; include/hrislanoth.h is the header.
+#![tactic(auto)]
+
 mod frames;
 mod lists;
 mod reasons;
@@ -26,7 +28,7 @@ use message::{Field, Message, Reading, Writing};
 use range::{Block, Comparison, RangeNumber};
 
 #[repr(C)]
-#[derive(Drop)]
+#[derive(Clone, Copy)]
 pub struct FlatNumber {
     pub refusal: u8,
     pub number: u64,
@@ -34,7 +36,7 @@ pub struct FlatNumber {
 
 // A message without enums: a field is there where its number before it is not 0.
 #[repr(C)]
-#[derive(Drop)]
+#[derive(Clone, Copy)]
 pub struct FlatMessage {
     pub mti: u16,
     pub source: u64,
@@ -45,7 +47,7 @@ pub struct FlatMessage {
 }
 
 #[repr(C)]
-#[derive(Drop)]
+#[derive(Clone, Copy)]
 pub struct FlatReading {
     pub refusal: u8,
     pub message: FlatMessage,
@@ -53,7 +55,7 @@ pub struct FlatReading {
 }
 
 #[repr(C)]
-#[derive(Drop)]
+#[derive(Clone, Copy)]
 pub struct FlatWriting {
     pub refusal: u8,
     pub bytes: usize,

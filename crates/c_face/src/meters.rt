@@ -14,7 +14,7 @@ use traffic::Share;
 
 // A share without enums: there is one where some is not 0.
 #[repr(C)]
-#[derive(Drop)]
+#[derive(Clone, Copy)]
 pub struct FlatShare {
     pub some: u8,
     pub tenths: u64,

@@ -12,7 +12,7 @@ use range::Block;
 
 // The refusal or 0, the reason's number, and the line that it names.
 #[repr(C)]
-#[derive(Drop)]
+#[derive(Clone, Copy)]
 pub struct FlatReason {
     pub refusal: u8,
     pub reason: u8,

@@ -1,4 +1,6 @@
 // The CAN side: frames joined to event reports, and event reports split into frames.
+#![tactic(auto)]
+
 mod parts;
 mod splitting;
 mod state;
@@ -8,7 +10,7 @@ pub use splitting::split;
 
 // What was gathered of a message: its sender, its event, and the first `length` bytes of its payload.
 #[repr(C)]
-#[derive(Drop)]
+#[derive(Clone, Copy)]
 pub struct Gathered {
     pub sender: u64,
     pub event: u64,
@@ -18,7 +20,7 @@ pub struct Gathered {
 
 // The joining state: what up to two senders have begun, the first `count` of the two.
 #[repr(C)]
-#[derive(Drop)]
+#[derive(Clone, Copy)]
 pub struct Joining {
     pub count: usize,
     pub first: Gathered,
@@ -27,7 +29,7 @@ pub struct Joining {
 
 // The refusal or 0; the message that is handed out, with MTI 0 where there is none; and the next joining state.
 #[repr(C)]
-#[derive(Drop)]
+#[derive(Clone, Copy)]
 pub struct Joined {
     pub refusal: u8,
     pub mti: u16,

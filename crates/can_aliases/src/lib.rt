@@ -1,4 +1,6 @@
 // The list of aliases, lent as two lists: node i stands behind alias i.
+#![tactic(auto)]
+
 ghost use Rattle.std.specs.Prelude.{◌≡◌, ◌&&◌, ◌||◌, ◌≤◌, eqb, length, drop};
 ghost use Rattle.basics.specs.Lists.{any};
 ghost use Rattle.message.specs.Messages.{bad_node};

@@ -1,4 +1,6 @@
 // A report with 20 bytes of payload comes in as frames, goes through the box, and goes out as frames on the legs that want it, where it is joined again.
+#![tactic(auto)]
+
 mod frames;
 mod legs;
 mod words;

@@ -1,8 +1,9 @@
 // A frame of the CAN bus, and what it is of an event report. What is done with them is defined in specs/ and proved in proofs/.
+#![tactic(auto)]
 
 // A header has 29 bits; one of the 32 that are given with any of the upper three set is another one. Of the bytes the first `length` are used.
 #[repr(C)]
-#[derive(Drop)]
+#[derive(Clone, Copy)]
 pub struct Frame {
     pub header: u32,
     pub length: u8,
@@ -10,7 +11,7 @@ pub struct Frame {
 }
 
 // An event report without payload is whole in one frame; one with payload has a start, middles and a last.
-#[derive(Drop)]
+#[derive(Clone, Copy)]
 pub enum Part {
     Whole,
     Start,

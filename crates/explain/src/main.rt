@@ -1,4 +1,6 @@
 // A trial file on standard input, on standard output why each report was sent to a leg or held back; "bad file" for any other input.
+#![tactic(auto)]
+
 use libc::{STDERR_FILENO, STDIN_FILENO, STDOUT_FILENO};
 
 // One byte more than a file may have, so that a longer one is seen.

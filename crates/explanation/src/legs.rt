@@ -13,7 +13,7 @@ use replay::PORTS;
 use text::Place;
 
 // What is told so far: the place after it, and whether a report was accepted.
-#[derive(Drop)]
+#[derive(Clone, Copy)]
 pub(crate) struct SoFar {
     pub place: Place,
     pub reported: bool,

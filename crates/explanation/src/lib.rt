@@ -1,4 +1,6 @@
 // A trial file in, and out in words why each report was sent to a leg or held back from it.
+#![tactic(auto)]
+
 mod entries;
 mod legs;
 mod lines;

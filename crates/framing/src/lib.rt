@@ -1,4 +1,6 @@
 // A frame file in, a line a step out: what a bench hand sees when frames are joined and event reports split.
+#![tactic(auto)]
+
 mod calls;
 mod fields;
 mod files;
@@ -15,7 +17,7 @@ use can::Joining;
 use text::Place;
 
 // What a step answers: the refusal or 0, how many bytes it wrote, and the joining state after it.
-#[derive(Drop)]
+#[derive(Clone, Copy)]
 pub(crate) struct Answer {
     pub refusal: u8,
     pub bytes: usize,

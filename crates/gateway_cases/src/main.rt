@@ -1,4 +1,6 @@
 // Puts the box through the cases of a file, a command a line, and prints each line and what came of it.
+#![tactic(auto)]
+
 mod commands;
 mod laid_index;
 mod lent;

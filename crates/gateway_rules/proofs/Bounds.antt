@@ -56,7 +56,7 @@ bounded_in g b = rw (
 
 -- ---- one message later
 
-pub same_box : {g g' : Gate} {q : ℕ} {m : Message} → Change g q m g' → (g'.ports ≡ g.ports) × (g'.automatic ≡ g.automatic)
+pub same_box : {g : Gate} {q : ℕ} {m : Message} {g' : Gate} → Change g q m g' → (g'.ports ≡ g.ports) × (g'.automatic ≡ g.automatic)
 same_box (restarted e) = (refl, refl)
 same_box (covered_already b e t) = (refl, refl)
 same_box (replaced b e f t) = (refl, refl)

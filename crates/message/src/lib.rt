@@ -1,4 +1,6 @@
 // Messages: what an MTI means, bytes to a message and back, and what a message says (003 section 3.1; 001 section 4).
+#![tactic(auto)]
+
 mod content;
 mod mti;
 mod reader;
@@ -12,7 +14,7 @@ pub use reader::{read, refused_with};
 pub use said::said_by;
 pub use writer::write;
 
-#[derive(Drop)]
+#[derive(Clone, Copy)]
 pub enum Kind {
     InitializationComplete,
     EventReport,
@@ -28,21 +30,21 @@ pub enum Kind {
 }
 
 // A row of the message table: the kind, and the least and the most content bytes.
-#[derive(Drop)]
+#[derive(Clone, Copy)]
 pub struct Meaning {
     pub kind: Kind,
     pub least: usize,
     pub most: usize,
 }
 
-#[derive(Drop)]
+#[derive(Clone, Copy)]
 pub enum Field {
     Present(u64),
     Absent,
 }
 
 // The content stays in the caller's bytes, from content_at(mti) on.
-#[derive(Drop)]
+#[derive(Clone, Copy)]
 pub struct Message {
     pub mti: u16,
     pub source: u64,
@@ -50,13 +52,13 @@ pub struct Message {
     pub event: Field,
 }
 
-#[derive(Drop)]
+#[derive(Clone, Copy)]
 pub enum Reading {
     Read(Message),
     Refused(u8),
 }
 
-#[derive(Drop)]
+#[derive(Clone, Copy)]
 pub enum Writing {
     Written(usize),
     NotWritten(u8),
@@ -64,7 +66,7 @@ pub enum Writing {
 
 // What a message says to a box or to a board: a report of an event, an announcement of a block, a restart, an inquiry for the slots of a role
 // with an event, one for all slots with its destination, an event to learn, or nothing of these.
-#[derive(Drop)]
+#[derive(Clone, Copy)]
 pub enum Saying {
     Report(u64),
     Announcement(Block),

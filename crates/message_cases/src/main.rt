@@ -1,4 +1,6 @@
 // Reads, writes back and compares the documents' messages, and prints a line a case.
+#![tactic(auto)]
+
 mod cases;
 mod report;
 

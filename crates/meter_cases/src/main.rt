@@ -1,5 +1,7 @@
 // Runs the case files whose names stand on standard input, a name a line, and prints each name and its meters.
 // A case file has the 40 counts that the meters begin with, 4 bytes each, high byte first, the set of marked ones, 1 byte, and a trial file.
+#![tactic(auto)]
+
 use libc::{STDIN_FILENO, STDOUT_FILENO};
 use traffic::MeterLists;
 

@@ -1,4 +1,6 @@
 // The box's call on lent lists with a meter for each port beside them: what it answers and leaves is the box's, and what it was is counted.
+#![tactic(auto)]
+
 mod counting;
 
 ghost use mathlib.Core.Path.{◌≡◌};

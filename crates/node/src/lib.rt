@@ -1,4 +1,6 @@
 // The board: its record by value and its slots as lent lists, one call for each thing that it does.
+#![tactic(auto)]
+
 mod bounds;
 mod calls;
 mod hearing;
@@ -15,7 +17,7 @@ use node_rules::{Call, Node};
 
 // The refusal or 0, the messages written and their bytes, the slots that a report matches, bit i for slot i, and the record.
 #[repr(C)]
-#[derive(Drop)]
+#[derive(Clone, Copy)]
 pub struct Answer {
     pub refusal: u8,
     pub messages: usize,

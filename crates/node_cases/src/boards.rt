@@ -3,7 +3,7 @@ use node_rules::Node;
 use range::Block;
 
 // How much of each list is lent.
-#[derive(Drop)]
+#[derive(Clone, Copy)]
 pub(crate) struct Lengths {
     pub(crate) roles: u64,
     pub(crate) events: u64,

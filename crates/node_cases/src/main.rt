@@ -1,4 +1,6 @@
 // Puts a board through the cases of a file, a command a line, and prints each line and what came of it.
+#![tactic(auto)]
+
 mod boards;
 mod calls;
 mod commands;

@@ -1,4 +1,6 @@
 // Numbers in bytes, high byte first.
+#![tactic(auto)]
+
 mod fixed;
 
 ghost use Rattle.std.specs.Prelude.{◌≡◌, ◌%◌, ◌^◌, ◌≤◌, length};

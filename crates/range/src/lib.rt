@@ -1,4 +1,6 @@
 // Event ID ranges (001 section 4): blocks, range numbers and what they hold.
+#![tactic(auto)]
+
 ghost use Rattle.std.specs.Prelude.{◌≡◌, ◌-◌, ◌*◌, ◌/◌, ◌^◌, ◌≤◌, true};
 ghost use Rattle.range.specs.Range.{run as run_of, is_block, inside as insideOf, block_of, single as singleOf};
 ghost use Rattle.range.specs.Answer.{yes_or_no, range_number, number_told, holds_told};
@@ -11,14 +13,14 @@ const ALL_ONES: u64 = 0xFFFF_FFFF_FFFF_FFFF;
 
 // 2^k numbers from start on; is_block tells which values are blocks.
 #[repr(C)]
-#[derive(Drop)]
+#[derive(Clone, Copy)]
 pub struct Block {
     pub start: u64,
     pub k: u8,
 }
 
 // NoBlock is refusal 14: a block given is none.
-#[derive(Drop)]
+#[derive(Clone, Copy)]
 pub enum Answer {
     Yes,
     No,
@@ -26,7 +28,7 @@ pub enum Answer {
 }
 
 // NoBlock is refusal 14.
-#[derive(Drop)]
+#[derive(Clone, Copy)]
 pub enum Comparison {
     Equal,
     FirstInside,
@@ -36,7 +38,7 @@ pub enum Comparison {
 }
 
 // NoNumber is refusal 14.
-#[derive(Drop)]
+#[derive(Clone, Copy)]
 pub enum RangeNumber {
     Number(u64),
     NoNumber,

@@ -1,4 +1,6 @@
 // Runs the range library on the documents' cases and prints what each function answers, a line a case.
+#![tactic(auto)]
+
 use libc::STDOUT_FILENO;
 use range::{Answer, Block, Comparison, RangeNumber};
 

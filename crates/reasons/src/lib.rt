@@ -1,4 +1,6 @@
 // A trial file in, the reasons of its last entry out: a line a port, in document 02's numbers.
+#![tactic(auto)]
+
 mod entries;
 mod lines;
 

@@ -1,4 +1,6 @@
 // A board file in, a line a call out: what a bench hand sees when a board is put through its calls.
+#![tactic(auto)]
+
 mod calls;
 mod files;
 mod lines;

@@ -1,4 +1,6 @@
 // A board file on standard input, a line a call on standard output; "bad file" for any other input.
+#![tactic(auto)]
+
 use libc::{STDERR_FILENO, STDIN_FILENO, STDOUT_FILENO};
 
 // One byte more than a file may have, so that a longer one is seen.

@@ -1,4 +1,6 @@
 // A trial file in, a line an entry out: what the box does with messages, one after another.
+#![tactic(auto)]
+
 mod entries;
 mod files;
 mod lines;

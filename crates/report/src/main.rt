@@ -1,4 +1,6 @@
 // Names of trial files on standard input, one a line; on standard output the reports that their boxes held back, in tenths of a per cent of sent and held back.
+#![tactic(auto)]
+
 use libc::{STDERR_FILENO, STDIN_FILENO, STDOUT_FILENO};
 use traffic::{Listing, Totals};
 
@@ -13,7 +15,7 @@ const LINE_END: u8 = 10;
 const MOST: usize = 65537;
 
 // How far the list is read, and what its files add up to so far.
-#[derive(Drop)]
+#[derive(Clone, Copy)]
 struct Progress {
     listing: Listing,
     totals: Totals,

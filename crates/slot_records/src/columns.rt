@@ -8,7 +8,7 @@ use node::Answer;
 use node_rules::{Call, Node};
 
 // How many slots there are, and the numbers of the first 65, one more than a board may have, so that a longer list is seen.
-#[derive(Drop)]
+#[derive(Clone, Copy)]
 pub(crate) struct Columns {
     pub count: usize,
     pub roles: [u8; 65],
@@ -18,7 +18,7 @@ pub(crate) struct Columns {
 }
 
 // A call's answer and the columns after it.
-#[derive(Drop)]
+#[derive(Clone, Copy)]
 pub(crate) struct Done {
     pub answer: Answer,
     pub columns: Columns,

@@ -1,4 +1,6 @@
 // The board by records: a call of the node on a list of slot records, and its initialisation on its own record.
+#![tactic(auto)]
+
 mod columns;
 mod slots;
 mod starting;
@@ -14,7 +16,7 @@ use node_rules::{Call, Node};
 use range::Block;
 
 #[repr(C)]
-#[derive(Drop)]
+#[derive(Clone, Copy)]
 pub struct Slot {
     pub role: u8,
     pub event: u64,
@@ -23,7 +25,7 @@ pub struct Slot {
 }
 
 // A node's own record, and the bytes that its last initialisation wrote.
-#[derive(Drop)]
+#[derive(Clone, Copy)]
 pub struct Record {
     pub id: u64,
     pub state: u8,

@@ -7,7 +7,7 @@ use crate::Record;
 use node_rules::Node;
 
 // The refusal or 0, and the two fields that the record gets.
-#[derive(Drop)]
+#[derive(Clone, Copy)]
 pub(crate) struct Started {
     pub refusal: u8,
     pub state: u8,

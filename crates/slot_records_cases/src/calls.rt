@@ -4,14 +4,14 @@ use node::Answer;
 use node_rules::Node;
 use slot_records::Slot;
 
-#[derive(Drop)]
+#[derive(Clone, Copy)]
 pub(crate) struct Board {
     pub node: Node,
     pub count: usize,
     pub slots: [Slot; 100],
 }
 
-#[derive(Drop)]
+#[derive(Clone, Copy)]
 pub(crate) struct Made {
     pub answer: Answer,
     pub board: Board,

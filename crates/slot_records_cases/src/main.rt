@@ -1,4 +1,6 @@
 // Puts the board of a board file through its calls by records: what it prints is what rehearse prints.
+#![tactic(auto)]
+
 mod calls;
 mod files;
 mod own;

@@ -6,7 +6,7 @@ use node::Answer;
 use node_rules::Node;
 use slot_records::{Record, Slot};
 
-#[derive(Drop)]
+#[derive(Clone, Copy)]
 pub(crate) struct Lists {
     pub roles: [u8; 100],
     pub events: [u64; 100],

@@ -5,13 +5,13 @@ use node::Answer;
 use node_rules::{Call, Node};
 use slot_records::{Record, Slot};
 
-#[derive(Drop)]
+#[derive(Clone, Copy)]
 pub(crate) struct Driven {
     pub answer: Answer,
     pub slots: [Slot; 100],
 }
 
-#[derive(Drop)]
+#[derive(Clone, Copy)]
 pub(crate) struct Restarted {
     pub refusal: u8,
     pub own: Record,

@@ -1,9 +1,11 @@
 // Text put into a lent buffer from a place on, as much of it as fits; each call answers the place after it.
 // A place also says how many bytes of the text are left out first, so that a long text can be had in parts.
+#![tactic(auto)]
+
 ghost use Rattle.std.specs.Prelude.{◌≡◌, [], ◌∷◌, ◌<◌};
 ghost use Rattle.text.specs.Text.{filled, end_of, within, hex_digit, decimal, hex_of};
 
-#[derive(Drop)]
+#[derive(Clone, Copy)]
 pub struct Place {
     pub skip: usize,
     pub at: usize,

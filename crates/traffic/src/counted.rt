@@ -11,7 +11,7 @@ use range::HOUSE;
 use replay::PORTS;
 
 // Eight meters: the counts of port p from place 5p on, and the set of those that are marked, bit p for port p.
-#[derive(Drop)]
+#[derive(Clone, Copy)]
 pub struct MeterLists {
     pub counts: [u32; 40],
     pub marked: u8,

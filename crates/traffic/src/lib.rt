@@ -1,4 +1,6 @@
 // Trial files in, figures out: the meters that a file leaves, sums over files, the share that is held back, and the list of the files' names.
+#![tactic(auto)]
+
 mod counted;
 mod lines;
 mod names;

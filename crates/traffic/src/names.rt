@@ -5,7 +5,7 @@ ghost use Rattle.traffic.specs.Names.{listing_next, name_next};
 const LINE_END: u8 = 10;
 
 // A list that is good so far: the names that are ended, and the bytes of the one that is not.
-#[derive(Drop)]
+#[derive(Clone, Copy)]
 pub enum Listing {
     Reading(usize, usize),
     Bad,

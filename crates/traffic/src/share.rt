@@ -3,7 +3,7 @@ ghost use Rattle.std.specs.Prelude.{◌≡◌};
 ghost use Rattle.traffic.specs.Totals.{share_of};
 
 // Nothing where there was no report to send, else the nearest number of tenths.
-#[derive(Drop)]
+#[derive(Clone, Copy)]
 pub enum Share {
     Nothing,
     Tenths(u64),
@@ -22,7 +22,7 @@ pub fn share_of(sent: u64, held: u64) -> Share
 }
 
 // What is over after some turns: rest, or sent and rest where it is past sent.
-#[derive(Drop)]
+#[derive(Clone, Copy)]
 struct Over {
     past: bool,
     rest: u64,

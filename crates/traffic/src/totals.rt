@@ -9,7 +9,7 @@ use crate::{Share, counted, share};
 use text::Place;
 
 // Reports sent and held back, over all ports of all files so far.
-#[derive(Drop)]
+#[derive(Clone, Copy)]
 pub struct Totals {
     pub sent: u64,
     pub held: u64,

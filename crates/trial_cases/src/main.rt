@@ -1,4 +1,6 @@
 // Runs the trial files whose names stand on standard input, a name a line, and prints each name and its text.
+#![tactic(auto)]
+
 use libc::{STDIN_FILENO, STDOUT_FILENO};
 
 const MOST: usize = 65537;

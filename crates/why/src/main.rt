@@ -1,4 +1,6 @@
 // A trial file on standard input; on standard output a line a port, why its last entry is sent there or held back, or only the refusal number.
+#![tactic(auto)]
+
 use libc::{STDERR_FILENO, STDIN_FILENO, STDOUT_FILENO};
 
 // One byte more than a file may have, so that a longer one is seen.
