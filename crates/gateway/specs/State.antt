@@ -1,7 +1,5 @@
 -- The rules' state from the code's: the lines stand in four lists, line i at place i of each, and the index in two more.
 use Rattle.std.specs.Prelude.{ℕ, ◌<◌, ◌≡◌, Bool, not, List, length, get_or, set}
-use Rattle.std.specs.Borrow.{Bor}
-use denote.Triple.Both.{Both}
 use Rattle.range.specs.declared.Block.{Block}
 use Rattle.range.specs.Range.{is_block}
 use Rattle.basics.specs.Lists.{each}
@@ -113,28 +111,3 @@ pub record SameLengths (t : Lists) (x : IndexLists) (u : Lists) (y : IndexLists)
   pub ports : length t.ports ≡ length u.ports
   pub sizes : length t.sizes ≡ length u.sizes
   pub order : length x.order ≡ length y.order
-
--- ---- lent
-
--- The lists that are lent to a call: as it asks for them, as it is entered, and as it is left.
-abbrev pub held : Bor (List ℕ) → Bor (List ℕ) → Bor (List ℕ) → Bor (List ℕ) → Lists
-held nodes starts ports sizes = lists nodes.now starts.now ports.now sizes.now
-
-abbrev pub Lent : Type 0
-Lent = Both (Bor (List ℕ)) (Bor (List ℕ))
-
-abbrev pub entered : Lent → Lent → Lent → Lent → Lists
-entered nodes starts ports sizes = held nodes.entry starts.entry ports.entry sizes.entry
-
-abbrev pub left : Lent → Lent → Lent → Lent → Lists
-left nodes starts ports sizes = held nodes.exit starts.exit ports.exit sizes.exit
-
--- The same of the lists of the index.
-abbrev pub index_held : Bor (List ℕ) → Bor (List ℕ) → IndexLists
-index_held order sets = index_lists order.now sets.now
-
-abbrev pub index_entered : Lent → Lent → IndexLists
-index_entered order sets = index_held order.entry sets.entry
-
-abbrev pub index_left : Lent → Lent → IndexLists
-index_left order sets = index_held order.exit sets.exit

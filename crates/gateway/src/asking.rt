@@ -3,7 +3,7 @@ ghost use Rattle.std.specs.Prelude.{◌≡◌, false, ◌≤◌, ◌<◌};
 ghost use Rattle.basics.specs.Lists.{any};
 ghost use Rattle.gateway_rules.specs.State.{out_of_bounds};
 ghost use Rattle.gateway_rules.specs.Reasons.{reason_for, by_line, first_holding};
-ghost use Rattle.gateway.specs.State.{Whole, lines_in, gate_in, no_block, held, entered, index_entered};
+ghost use Rattle.gateway.specs.State.{Whole, lines_in, gate_in, no_block, lists, index_lists};
 ghost use Rattle.gateway.specs.Asking.{answer_told, lent_why};
 
 use crate::{Head, bounds, lines};
@@ -11,7 +11,7 @@ use gateway_rules::{Holder, Reason};
 use message::{Reading, Saying};
 use range::Answer;
 
-#[derive(Drop)]
+#[derive(Clone, Copy)]
 pub enum WhyAnswer {
     Because(Reason),
     Refused(u8),
@@ -30,7 +30,7 @@ pub fn why(
     asked: u8,
     bytes: &[u8],
 ) -> WhyAnswer
-    ensures { answer_told result ≡ lent_why head (entered nodes starts ports sizes) (index_entered order sets) port asked bytes.now }
+    ensures { answer_told result ≡ lent_why head (lists nodes.now starts.now ports.now sizes.now) (index_lists order.now sets.now) port asked bytes.now }
 {
     if bounds::bad_state(head, nodes, starts, ports, sizes, order, sets) {
         return WhyAnswer::Refused(7);
@@ -62,10 +62,10 @@ fn reason_for(
     e: u64,
     asked: u8,
 ) -> Reason
-    requires whole { Whole (held nodes starts ports sizes) }
-    requires sizes_value { out_of_bounds (gate_in head (held nodes starts ports sizes)) ≡ false }
+    requires whole { Whole (lists nodes.now starts.now ports.now sizes.now) }
+    requires sizes_value { out_of_bounds (gate_in head (lists nodes.now starts.now ports.now sizes.now)) ≡ false }
     requires asked_lt_ports { asked < head.ports }
-    ensures { result ≡ reason_for (gate_in head (entered nodes starts ports sizes)) port e asked }
+    ensures { result ≡ reason_for (gate_in head (lists nodes.now starts.now ports.now sizes.now)) port e asked }
 {
     let automatic = head.automatic;
     if asked == port {
@@ -91,9 +91,9 @@ fn first_holding(
     e: u64,
 ) -> Reason
     requires count_bound { count ≤ 256 }
-    requires whole { Whole (held nodes starts ports sizes) }
-    requires sizes_value { any no_block (lines_in count (held nodes starts ports sizes)) ≡ false }
-    ensures { result ≡ by_line (first_holding asked e 0 (lines_in count (entered nodes starts ports sizes))) }
+    requires whole { Whole (lists nodes.now starts.now ports.now sizes.now) }
+    requires sizes_value { any no_block (lines_in count (lists nodes.now starts.now ports.now sizes.now)) ≡ false }
+    ensures { result ≡ by_line (first_holding asked e 0 (lines_in count (lists nodes.now starts.now ports.now sizes.now))) }
 {
     let mut i = 0;
     while i < count {

@@ -5,7 +5,7 @@ ghost use Rattle.message.specs.Messages.{bad_node};
 ghost use Rattle.basics.specs.Lists.{any};
 ghost use Rattle.basics.specs.Sets.{in_set};
 ghost use Rattle.gateway_rules.specs.State.{bad_ports, bad_line, stray_mark};
-ghost use Rattle.gateway.specs.State.{Whole, bad_head, lines_in, first_numbers, first_blocks, not_block, held, entered, index_entered};
+ghost use Rattle.gateway.specs.State.{Whole, bad_head, lines_in, first_numbers, first_blocks, not_block, lists, index_lists};
 ghost use Rattle.gateway.specs.Answers.{bad_lengths, bad_index_lengths, outside};
 
 use crate::{Head, index};
@@ -24,7 +24,7 @@ pub(crate) fn bad_state(
     order: &[u8],
     sets: &[u64],
 ) -> bool
-    ensures { result ≡ outside head (entered nodes starts ports sizes) (index_entered order sets) }
+    ensures { result ≡ outside head (lists nodes.now starts.now ports.now sizes.now) (index_lists order.now sets.now) }
 {
     if bad_lengths(nodes.len(), starts.len(), ports.len(), sizes.len()) {
         return true;
@@ -127,8 +127,8 @@ fn bad_lines(
     below: u8,
 ) -> bool
     requires count_bound { count ≤ 256 }
-    requires whole { Whole (held nodes starts ports sizes) }
-    ensures { result ≡ any (bad_line below) (lines_in count (entered nodes starts ports sizes)) }
+    requires whole { Whole (lists nodes.now starts.now ports.now sizes.now) }
+    ensures { result ≡ any (bad_line below) (lines_in count (lists nodes.now starts.now ports.now sizes.now)) }
 {
     if some_port_past(count, ports, below) {
         return true;

@@ -1,6 +1,6 @@
 // The box on lent lists: the lines and their index stand in the caller's lists, and change there.
 ghost use Rattle.std.specs.Prelude.{◌≡◌};
-ghost use Rattle.gateway.specs.State.{entered, left, index_in, index_entered, index_left};
+ghost use Rattle.gateway.specs.State.{index_in, lists, index_lists};
 ghost use Rattle.gateway.specs.Answers.{seen_lent, seen_of, lent_step, LentRefusalKeeps};
 
 use crate::{Head, LentAnswer, bounds, port_sets, step, wanting};
@@ -18,8 +18,8 @@ pub fn receive_lent(
     port: u8,
     bytes: &[u8],
 ) -> LentAnswer
-    ensures sets_value { seen_lent head result (left nodes starts ports sizes) (index_left order sets) ≡ seen_of (index_in head.count (index_entered order sets)) (lent_step head (entered nodes starts ports sizes) (index_entered order sets) port bytes.now) }
-    ensures lent_refusal_keeps { LentRefusalKeeps head (entered nodes starts ports sizes) (index_entered order sets) result (left nodes starts ports sizes) (index_left order sets) }
+    ensures sets_value { seen_lent head result (lists nodes.new starts.new ports.new sizes.new) (index_lists order.new sets.new) ≡ seen_of (index_in head.count (index_lists order.old sets.old)) (lent_step head (lists nodes.old starts.old ports.old sizes.old) (index_lists order.old sets.old) port bytes.now) }
+    ensures lent_refusal_keeps { LentRefusalKeeps head (lists nodes.old starts.old ports.old sizes.old) (index_lists order.old sets.old) result (lists nodes.new starts.new ports.new sizes.new) (index_lists order.new sets.new) }
 {
     if bounds::bad_state(head, nodes, starts, ports, sizes, order, sets) {
         return refused(head, 7);

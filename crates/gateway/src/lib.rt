@@ -1,4 +1,6 @@
 // The box: a state goes in with a port and bytes, and comes back with where they go.
+#![tactic(auto)]
+
 mod asking;
 mod bounds;
 mod index;
@@ -36,7 +38,7 @@ pub struct Answer {
 
 // The same where the lines and their index stand in lent lists: the open marks and the line count are what else can change.
 #[repr(C)]
-#[derive(Drop)]
+#[derive(Clone, Copy)]
 pub struct LentAnswer {
     pub refusal: u8,
     pub sent: u8,

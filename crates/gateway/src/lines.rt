@@ -6,15 +6,15 @@ ghost use Rattle.gateway_rules.specs.Step.{within as withinOf};
 ghost use Rattle.basics.specs.Lists.{any, without};
 ghost use Rattle.gateway.specs.Answers.{stands_as, goes_by, Comparable};
 ghost use Rattle.gateway.specs.Indexing.{Level};
-ghost use Rattle.gateway.specs.State.{Whole, line_at, lines_in, put_at, no_block, held, entered, left};
+ghost use Rattle.gateway.specs.State.{Whole, line_at, lines_in, put_at, no_block, lists};
 
 use gateway_rules::Line;
 use range::{Block, Comparison};
 
 pub(crate) fn line_at(nodes: &[u64], starts: &[u64], ports: &[u8], sizes: &[u8], i: usize) -> Line
-    requires whole { Whole (held nodes starts ports sizes) }
+    requires whole { Whole (lists nodes.now starts.now ports.now sizes.now) }
     requires i_bound { i < 256 }
-    ensures { result ≡ line_at (entered nodes starts ports sizes) i }
+    ensures { result ≡ line_at (lists nodes.now starts.now ports.now sizes.now) i }
 {
     Line {
         port: ports[i],
@@ -34,9 +34,9 @@ pub(crate) fn put_line(
     i: usize,
     l: Line,
 )
-    requires whole { Whole (held nodes starts ports sizes) }
+    requires whole { Whole (lists nodes.old starts.old ports.old sizes.old) }
     requires i_bound { i < 256 }
-    ensures { left nodes starts ports sizes ≡ put_at i l (entered nodes starts ports sizes) }
+    ensures { lists nodes.new starts.new ports.new sizes.new ≡ put_at i l (lists nodes.old starts.old ports.old sizes.old) }
 {
     let block = l.block;
     nodes[i] = l.node;
@@ -46,7 +46,7 @@ pub(crate) fn put_line(
 }
 
 // How a line stands to those of the table: inside one, else holding some, else new (document 02, W4).
-#[derive(Drop)]
+#[derive(Clone, Copy)]
 pub(crate) enum Standing {
     Covered,
     Holding,
@@ -62,10 +62,10 @@ pub(crate) fn looked_for(
     l: Line,
 ) -> Standing
     requires count_bound { count ≤ 256 }
-    requires whole { Whole (held nodes starts ports sizes) }
+    requires whole { Whole (lists nodes.now starts.now ports.now sizes.now) }
     requires block_value { is_block l.block ≡ true }
-    requires sizes_value { any no_block (lines_in count (held nodes starts ports sizes)) ≡ false }
-    ensures { result ≡ stands_as (lines_in count (entered nodes starts ports sizes)) l }
+    requires sizes_value { any no_block (lines_in count (lists nodes.now starts.now ports.now sizes.now)) ≡ false }
+    ensures { result ≡ stands_as (lines_in count (lists nodes.now starts.now ports.now sizes.now)) l }
 {
     let mut holding = false;
     let mut i = 0;
@@ -119,7 +119,7 @@ fn within(a: Line, b: Line) -> bool
 const GONE: u16 = 256;
 
 // Which lines are taken out: those of a node, or those that a line holds.
-#[derive(Drop)]
+#[derive(Clone, Copy)]
 pub(crate) enum Gone {
     OfNode(u64),
     HeldBy(Line),
@@ -136,11 +136,11 @@ pub(crate) fn take_out(
     gone: Gone,
 ) -> usize
     requires count_bound { count ≤ 256 }
-    requires whole { Whole (held nodes starts ports sizes) }
+    requires whole { Whole (lists nodes.old starts.old ports.old sizes.old) }
     requires falls_len { (length falls.old ≡ 256) × Level falls.old }
-    requires comparable { Comparable gone (lines_in count (held nodes starts ports sizes)) }
-    ensures sizes_value { lines_in result (left nodes starts ports sizes) ≡ without (goes_by gone) (lines_in count (entered nodes starts ports sizes)) }
-    ensures falls { Falls (λ p. goes_by gone (line_at (entered nodes starts ports sizes) p)) count falls.new }
+    requires comparable { Comparable gone (lines_in count (lists nodes.old starts.old ports.old sizes.old)) }
+    ensures sizes_value { lines_in result (lists nodes.new starts.new ports.new sizes.new) ≡ without (goes_by gone) (lines_in count (lists nodes.old starts.old ports.old sizes.old)) }
+    ensures falls { Falls (λ p. goes_by gone (line_at (lists nodes.old starts.old ports.old sizes.old) p)) count falls.new }
 {
     let first = before_gone(count, nodes, starts, ports, sizes, gone);
     let mut i = first;
@@ -170,10 +170,10 @@ fn before_gone(
     gone: Gone,
 ) -> usize
     requires count_bound { count ≤ 256 }
-    requires whole { Whole (held nodes starts ports sizes) }
-    requires comparable { Comparable gone (lines_in count (held nodes starts ports sizes)) }
-    ensures upper_bound { (result ≤ count) × (any (goes_by gone) (lines_in result (entered nodes starts ports sizes)) ≡ false) }
-    ensures fact { (result ≡ count) ⊎ (goes_by gone (line_at (entered nodes starts ports sizes) result) ≡ true) }
+    requires whole { Whole (lists nodes.now starts.now ports.now sizes.now) }
+    requires comparable { Comparable gone (lines_in count (lists nodes.now starts.now ports.now sizes.now)) }
+    ensures upper_bound { (result ≤ count) × (any (goes_by gone) (lines_in result (lists nodes.now starts.now ports.now sizes.now)) ≡ false) }
+    ensures fact { (result ≡ count) ⊎ (goes_by gone (line_at (lists nodes.now starts.now ports.now sizes.now) result) ≡ true) }
 {
     let mut i = 0;
     while i < count {

@@ -3,7 +3,7 @@ use range::Block;
 
 // The state but for the lines and their index. Bit p of marks is the open mark of port p.
 #[repr(C)]
-#[derive(Drop)]
+#[derive(Clone, Copy)]
 pub struct Head {
     pub ports: u8,
     pub marks: u8,

@@ -3,7 +3,7 @@ ghost use Rattle.std.specs.Prelude.{◌≡◌, true, false, ◌<◌};
 ghost use Rattle.range.specs.Range.{is_block};
 ghost use Rattle.gateway_rules.specs.State.{out_of_bounds};
 ghost use Rattle.gateway_rules.specs.Step.{announce as announceTo, hear as hearAt, holds_some, replacing, restart as restartOf, storing};
-ghost use Rattle.gateway.specs.State.{Whole, lines_in, gate_in, gate_after, held, entered, left, index_held, index_left};
+ghost use Rattle.gateway.specs.State.{Whole, lines_in, gate_in, gate_after, lists, index_lists};
 ghost use Rattle.gateway.specs.Answers.{AnnouncesBlock};
 ghost use Rattle.gateway.specs.Indexing.{IndexFits, WholeIndex};
 
@@ -13,7 +13,7 @@ use gateway_rules::Line;
 use message::Saying;
 
 // What is left of the head: the rest of it never changes.
-#[derive(Drop)]
+#[derive(Clone, Copy)]
 pub(crate) struct Left {
     pub(crate) marks: u8,
     pub(crate) count: usize,
@@ -32,12 +32,12 @@ pub(crate) fn hear(
     node: u64,
     saying: Saying,
 ) -> Left
-    requires whole { Whole (held nodes starts ports sizes) × WholeIndex (index_held order sets) }
-    requires index_fits { IndexFits head.count (held nodes starts ports sizes) (index_held order sets) }
-    requires sizes_value { out_of_bounds (gate_in head (held nodes starts ports sizes)) ≡ false }
+    requires whole { Whole (lists nodes.old starts.old ports.old sizes.old) × WholeIndex (index_lists order.old sets.old) }
+    requires index_fits { IndexFits head.count (lists nodes.old starts.old ports.old sizes.old) (index_lists order.old sets.old) }
+    requires sizes_value { out_of_bounds (gate_in head (lists nodes.old starts.old ports.old sizes.old)) ≡ false }
     requires port_lt_ports { (port < head.ports) × AnnouncesBlock saying }
-    ensures sizes_value_2 { gate_after head result (left nodes starts ports sizes) ≡ hearAt (gate_in head (entered nodes starts ports sizes)) port node saying }
-    ensures index_fits_2 { IndexFits result.count (left nodes starts ports sizes) (index_left order sets) }
+    ensures sizes_value_2 { gate_after head result (lists nodes.new starts.new ports.new sizes.new) ≡ hearAt (gate_in head (lists nodes.old starts.old ports.old sizes.old)) port node saying }
+    ensures index_fits_2 { IndexFits result.count (lists nodes.new starts.new ports.new sizes.new) (index_lists order.new sets.new) }
 {
     if let Saying::Restart = saying {
         return restart(head, nodes, starts, ports, sizes, order, sets, node);
@@ -67,11 +67,11 @@ fn restart(
     sets: &mut [u64],
     node: u64,
 ) -> Left
-    requires whole { Whole (held nodes starts ports sizes) × WholeIndex (index_held order sets) }
-    requires index_fits { IndexFits head.count (held nodes starts ports sizes) (index_held order sets) }
-    requires sizes_value { out_of_bounds (gate_in head (held nodes starts ports sizes)) ≡ false }
-    ensures sizes_value_2 { gate_after head result (left nodes starts ports sizes) ≡ restartOf (gate_in head (entered nodes starts ports sizes)) node }
-    ensures index_fits_2 { IndexFits result.count (left nodes starts ports sizes) (index_left order sets) }
+    requires whole { Whole (lists nodes.old starts.old ports.old sizes.old) × WholeIndex (index_lists order.old sets.old) }
+    requires index_fits { IndexFits head.count (lists nodes.old starts.old ports.old sizes.old) (index_lists order.old sets.old) }
+    requires sizes_value { out_of_bounds (gate_in head (lists nodes.old starts.old ports.old sizes.old)) ≡ false }
+    ensures sizes_value_2 { gate_after head result (lists nodes.new starts.new ports.new sizes.new) ≡ restartOf (gate_in head (lists nodes.old starts.old ports.old sizes.old)) node }
+    ensures index_fits_2 { IndexFits result.count (lists nodes.new starts.new ports.new sizes.new) (index_lists order.new sets.new) }
 {
     let marks = head.marks;
     let count = table::remove(
@@ -97,12 +97,12 @@ fn announce(
     sets: &mut [u64],
     l: Line,
 ) -> Left
-    requires whole { Whole (held nodes starts ports sizes) × WholeIndex (index_held order sets) }
-    requires index_fits { IndexFits head.count (held nodes starts ports sizes) (index_held order sets) }
-    requires sizes_value { out_of_bounds (gate_in head (held nodes starts ports sizes)) ≡ false }
+    requires whole { Whole (lists nodes.old starts.old ports.old sizes.old) × WholeIndex (index_lists order.old sets.old) }
+    requires index_fits { IndexFits head.count (lists nodes.old starts.old ports.old sizes.old) (index_lists order.old sets.old) }
+    requires sizes_value { out_of_bounds (gate_in head (lists nodes.old starts.old ports.old sizes.old)) ≡ false }
     requires port_lt_ports { (l.port < head.ports) × (is_block l.block ≡ true) }
-    ensures sizes_value_2 { gate_after head result (left nodes starts ports sizes) ≡ announceTo (gate_in head (entered nodes starts ports sizes)) l }
-    ensures index_fits_2 { IndexFits result.count (left nodes starts ports sizes) (index_left order sets) }
+    ensures sizes_value_2 { gate_after head result (lists nodes.new starts.new ports.new sizes.new) ≡ announceTo (gate_in head (lists nodes.old starts.old ports.old sizes.old)) l }
+    ensures index_fits_2 { IndexFits result.count (lists nodes.new starts.new ports.new sizes.new) (index_lists order.new sets.new) }
 {
     match lines::looked_for(head.count, nodes, starts, ports, sizes, l) {
         Standing::Covered => unchanged(head),
@@ -121,12 +121,12 @@ fn replace(
     sets: &mut [u64],
     l: Line,
 ) -> Left
-    requires whole { Whole (held nodes starts ports sizes) × WholeIndex (index_held order sets) }
-    requires index_fits { IndexFits head.count (held nodes starts ports sizes) (index_held order sets) }
-    requires sizes_value { out_of_bounds (gate_in head (held nodes starts ports sizes)) ≡ false }
-    requires port_lt_ports { (l.port < head.ports) × (is_block l.block ≡ true) × (holds_some (lines_in head.count (held nodes starts ports sizes)) l ≡ true) }
-    ensures sizes_value_2 { gate_after head result (left nodes starts ports sizes) ≡ replacing (gate_in head (entered nodes starts ports sizes)) l }
-    ensures index_fits_2 { IndexFits result.count (left nodes starts ports sizes) (index_left order sets) }
+    requires whole { Whole (lists nodes.old starts.old ports.old sizes.old) × WholeIndex (index_lists order.old sets.old) }
+    requires index_fits { IndexFits head.count (lists nodes.old starts.old ports.old sizes.old) (index_lists order.old sets.old) }
+    requires sizes_value { out_of_bounds (gate_in head (lists nodes.old starts.old ports.old sizes.old)) ≡ false }
+    requires port_lt_ports { (l.port < head.ports) × (is_block l.block ≡ true) × (holds_some (lines_in head.count (lists nodes.old starts.old ports.old sizes.old)) l ≡ true) }
+    ensures sizes_value_2 { gate_after head result (lists nodes.new starts.new ports.new sizes.new) ≡ replacing (gate_in head (lists nodes.old starts.old ports.old sizes.old)) l }
+    ensures index_fits_2 { IndexFits result.count (lists nodes.new starts.new ports.new sizes.new) (index_lists order.new sets.new) }
 {
     let kept = table::remove(
         head.count,
@@ -155,12 +155,12 @@ fn store(
     sets: &mut [u64],
     l: Line,
 ) -> Left
-    requires whole { Whole (held nodes starts ports sizes) × WholeIndex (index_held order sets) }
-    requires index_fits { IndexFits head.count (held nodes starts ports sizes) (index_held order sets) }
-    requires sizes_value { out_of_bounds (gate_in head (held nodes starts ports sizes)) ≡ false }
+    requires whole { Whole (lists nodes.old starts.old ports.old sizes.old) × WholeIndex (index_lists order.old sets.old) }
+    requires index_fits { IndexFits head.count (lists nodes.old starts.old ports.old sizes.old) (index_lists order.old sets.old) }
+    requires sizes_value { out_of_bounds (gate_in head (lists nodes.old starts.old ports.old sizes.old)) ≡ false }
     requires port_lt_ports { (l.port < head.ports) × (is_block l.block ≡ true) }
-    ensures sizes_value_2 { gate_after head result (left nodes starts ports sizes) ≡ storing (gate_in head (entered nodes starts ports sizes)) l }
-    ensures index_fits_2 { IndexFits result.count (left nodes starts ports sizes) (index_left order sets) }
+    ensures sizes_value_2 { gate_after head result (lists nodes.new starts.new ports.new sizes.new) ≡ storing (gate_in head (lists nodes.old starts.old ports.old sizes.old)) l }
+    ensures index_fits_2 { IndexFits result.count (lists nodes.new starts.new ports.new sizes.new) (index_lists order.new sets.new) }
 {
     let count = head.count;
     if count < 256 {

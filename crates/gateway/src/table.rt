@@ -1,7 +1,7 @@
 // The table with its index: lines taken out, and one added.
 ghost use Rattle.std.specs.Prelude.{◌≡◌, ◌+◌, ◌≤◌, ◌<◌};
 ghost use Rattle.basics.specs.Lists.{without};
-ghost use Rattle.gateway.specs.State.{Whole, lines_in, put_at, held, entered, left, index_held, index_left};
+ghost use Rattle.gateway.specs.State.{Whole, lines_in, put_at, lists, index_lists};
 ghost use Rattle.gateway.specs.Answers.{goes_by, Comparable};
 ghost use Rattle.gateway.specs.Indexing.{Sized, IndexFits, WholeIndex};
 
@@ -21,12 +21,12 @@ pub(crate) fn remove(
     gone: Gone,
 ) -> usize
     requires count_bound { count ≤ 256 }
-    requires whole { Whole (held nodes starts ports sizes) × WholeIndex (index_held order sets) }
+    requires whole { Whole (lists nodes.old starts.old ports.old sizes.old) × WholeIndex (index_lists order.old sets.old) }
     requires sized { Sized count ports.old sizes.old }
-    requires index_fits { IndexFits count (held nodes starts ports sizes) (index_held order sets) }
-    requires comparable { Comparable gone (lines_in count (held nodes starts ports sizes)) }
-    ensures sizes_value { lines_in result (left nodes starts ports sizes) ≡ without (goes_by gone) (lines_in count (entered nodes starts ports sizes)) }
-    ensures index_fits_2 { IndexFits result (left nodes starts ports sizes) (index_left order sets) }
+    requires index_fits { IndexFits count (lists nodes.old starts.old ports.old sizes.old) (index_lists order.old sets.old) }
+    requires comparable { Comparable gone (lines_in count (lists nodes.old starts.old ports.old sizes.old)) }
+    ensures sizes_value { lines_in result (lists nodes.new starts.new ports.new sizes.new) ≡ without (goes_by gone) (lines_in count (lists nodes.old starts.old ports.old sizes.old)) }
+    ensures index_fits_2 { IndexFits result (lists nodes.new starts.new ports.new sizes.new) (index_lists order.new sets.new) }
 {
     let mut falls: [u16; 256] = [0; 256];
     let kept = lines::take_out(count, nodes, starts, ports, sizes, &mut falls, gone);
@@ -46,11 +46,11 @@ pub(crate) fn add(
     l: Line,
 )
     requires count_bound { count < 256 }
-    requires whole { Whole (held nodes starts ports sizes) × WholeIndex (index_held order sets) }
+    requires whole { Whole (lists nodes.old starts.old ports.old sizes.old) × WholeIndex (index_lists order.old sets.old) }
     requires port_bound { (l.port < 8) × (l.block.k ≤ 64) }
-    requires index_fits { IndexFits count (held nodes starts ports sizes) (index_held order sets) }
-    ensures sizes_value { left nodes starts ports sizes ≡ put_at count l (entered nodes starts ports sizes) }
-    ensures index_fits_2 { IndexFits (count + 1) (left nodes starts ports sizes) (index_left order sets) }
+    requires index_fits { IndexFits count (lists nodes.old starts.old ports.old sizes.old) (index_lists order.old sets.old) }
+    ensures sizes_value { lists nodes.new starts.new ports.new sizes.new ≡ put_at count l (lists nodes.old starts.old ports.old sizes.old) }
+    ensures index_fits_2 { IndexFits (count + 1) (lists nodes.new starts.new ports.new sizes.new) (index_lists order.new sets.new) }
 {
     lines::put_line(nodes, starts, ports, sizes, count, l);
     index::take_in(count, starts, ports, sizes, order, sets);

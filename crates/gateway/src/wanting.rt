@@ -2,7 +2,7 @@
 ghost use Rattle.std.specs.Prelude.{◌≡◌, true, false};
 ghost use Rattle.range.specs.Range.{is_block};
 ghost use Rattle.gateway_rules.specs.State.{out_of_bounds};
-ghost use Rattle.gateway.specs.State.{Whole, gate_in, held, entered, index_held};
+ghost use Rattle.gateway.specs.State.{Whole, gate_in, lists, index_lists};
 ghost use Rattle.gateway.specs.Answers.{wanted_by, asked_by};
 ghost use Rattle.gateway.specs.Indexing.{IndexFits, WholeIndex};
 
@@ -13,7 +13,7 @@ use range::{Answer, Block};
 const EVERY: u8 = 255;
 
 // Who wants what is said: every port, or those that have a line which holds an event.
-#[derive(Drop)]
+#[derive(Clone, Copy)]
 enum Asked {
     Everyone,
     Holders(u64),
@@ -30,10 +30,10 @@ pub(crate) fn wanted(
     sets: &[u64],
     saying: Saying,
 ) -> u8
-    requires whole { Whole (held nodes starts ports sizes) × WholeIndex (index_held order sets) }
-    requires index_fits { IndexFits head.count (held nodes starts ports sizes) (index_held order sets) }
-    requires sizes_value { out_of_bounds (gate_in head (held nodes starts ports sizes)) ≡ false }
-    ensures { result ≡ wanted_by (gate_in head (entered nodes starts ports sizes)) saying }
+    requires whole { Whole (lists nodes.now starts.now ports.now sizes.now) × WholeIndex (index_lists order.now sets.now) }
+    requires index_fits { IndexFits head.count (lists nodes.now starts.now ports.now sizes.now) (index_lists order.now sets.now) }
+    requires sizes_value { out_of_bounds (gate_in head (lists nodes.now starts.now ports.now sizes.now)) ≡ false }
+    ensures { result ≡ wanted_by (gate_in head (lists nodes.now starts.now ports.now sizes.now)) saying }
 {
     match who_is_asked(head.automatic, saying) {
         Asked::Everyone => EVERY,

@@ -1,0 +1,47 @@
+use Prim.Native.Nat.{ℕ, ◌-◌, ◌/◌, ◌^◌}
+use mathlib.Core.Path.{◌≡◌, refl, sym, ap, ◌∙◌}
+use mathlib.Core.Bool.{false, ◌&&◌}
+use native.Mathlib.Omega.{arith}
+use lib.Count.{trailing_le}
+use Rattle.basics.specs.Sets.{any_below, in_set}
+use Rattle.gateway.specs.Indexing.{placed_in}
+use Rattle.gateway.proofs.Sizing.{around_in, shifted_back}
+use Rattle.gateway.proofs.Skips.{next_in, none_to_next, next_passes, not_the_next}
+use Rattle.gateway.proofs.lookup.under.Goals as goal
+
+pub loop-k-init : goal.loop-k-init
+loop-k-init c = (omega arith, refl)
+
+pub overflow_cast-at-in-loop-k : goal.overflow_cast-at-in-loop-k
+overflow_cast-at-in-loop-k c = omega (arith, trailing_le 64 (c.args.set / 2 ^ c.loop-k.k))
+
+pub overflow_add-at : goal.overflow_add-at
+overflow_add-at c = omega (arith, trailing_le 64 (c.args.set / 2 ^ c.loop-k.k))
+
+pub returns-then-at-ge64 : goal.returns-then-at-ge64
+returns-then-at-ge64 c =
+    let a = c.args in
+    sym (none_to_next a.set c.loop-k.k (around_in a.count a.starts.now a.ports.now a.sizes.now a.port a.e) 64 c.if-at-ge64.true c.loop-k.invariant.1)
+
+pub find-requires : goal.find-requires
+find-requires c = record { count_bound = c.requires.count_bound; whole_spots = c.requires.whole_spots; agrees = c.requires.agrees }
+
+pub returns-then-find : goal.returns-then-find
+returns-then-find c =
+    let a = c.args in
+    let at = next_in a.set c.loop-k.k in
+    let begins = ap (placed_in a.count a.starts.now a.ports.now a.sizes.now a.port at) (shifted_back 64 a.e at (omega arith)) in
+    sym (next_passes a.set c.loop-k.k (around_in a.count a.starts.now a.ports.now a.sizes.now a.port a.e) c.if-at-ge64.false (sym begins ∙ sym c.find.ensures ∙ c.if-find.true))
+
+pub loop-k-preserved : goal.loop-k-preserved
+loop-k-preserved c =
+    let a = c.args in
+    let at = next_in a.set c.loop-k.k in
+    let begins = ap (placed_in a.count a.starts.now a.ports.now a.sizes.now a.port at) (shifted_back 64 a.e at (omega arith)) in
+    (omega arith, not_the_next a.set c.loop-k.k (around_in a.count a.starts.now a.ports.now a.sizes.now a.port a.e) c.loop-k.invariant.1 (sym begins ∙ sym c.find.ensures ∙ c.if-find.false))
+
+pub returns : goal.returns
+returns c =
+    let a = c.args in
+    let all : c.loop-k.k ≡ 64 = omega arith in
+    sym c.loop-k.invariant.1 ∙ ap (λ (k : ℕ). any_below k (λ j. in_set a.set j && around_in a.count a.starts.now a.ports.now a.sizes.now a.port a.e j)) all
