@@ -17,7 +17,7 @@ ghost use Rattle.message.specs.Writing.{writing_told, write_told, out_after};
 ghost use Rattle.gateway_rules.specs.Step.{start as started_by};
 ghost use Rattle.index_rules.specs.Index.{index_of};
 ghost use Rattle.index_rules.specs.Boxes.{box_step};
-ghost use Rattle.gateway.specs.State.{box_of, entered, left, index_in, index_entered, index_left};
+ghost use Rattle.gateway.specs.State.{box_of, index_in, lists, index_lists};
 ghost use Rattle.gateway.specs.Answers.{seen_in, seen_of, RefusalKeeps, seen_lent, lent_step, LentRefusalKeeps};
 ghost use Rattle.replay.specs.Lines.{text_of as trialText};
 ghost use Rattle.rehearsal.specs.Lines.{text_of as boardText};
@@ -172,8 +172,8 @@ pub extern "C" fn hrislanoth_receive_lent(
     port: u8,
     bytes: &[u8],
 ) -> LentAnswer
-    ensures sets_value { seen_lent head result (left nodes starts ports sizes) (index_left order sets) ≡ seen_of (index_in head.count (index_entered order sets)) (lent_step head (entered nodes starts ports sizes) (index_entered order sets) port bytes.now) }
-    ensures lent_refusal_keeps { LentRefusalKeeps head (entered nodes starts ports sizes) (index_entered order sets) result (left nodes starts ports sizes) (index_left order sets) }
+    ensures sets_value { seen_lent head result (lists nodes.new starts.new ports.new sizes.new) (index_lists order.new sets.new) ≡ seen_of (index_in head.count (index_lists order.old sets.old)) (lent_step head (lists nodes.old starts.old ports.old sizes.old) (index_lists order.old sets.old) port bytes.now) }
+    ensures lent_refusal_keeps { LentRefusalKeeps head (lists nodes.old starts.old ports.old sizes.old) (index_lists order.old sets.old) result (lists nodes.new starts.new ports.new sizes.new) (index_lists order.new sets.new) }
 {
     gateway::receive_lent(head, nodes, starts, ports, sizes, order, sets, port, bytes)
 }

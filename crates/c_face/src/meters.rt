@@ -1,7 +1,7 @@
 // The meters.
 ghost use Rattle.std.specs.Prelude.{◌≡◌};
 ghost use Rattle.text.specs.Text.{filled_at, end_at};
-ghost use Rattle.gateway.specs.State.{entered, left, index_in, index_entered, index_left};
+ghost use Rattle.gateway.specs.State.{index_in, lists, index_lists};
 ghost use Rattle.gateway.specs.Answers.{seen_lent, seen_of, LentRefusalKeeps};
 ghost use Rattle.metering.specs.Metering.{meters_in, metered_step, meters_left, NoMeterKeeps};
 ghost use Rattle.traffic.specs.Lines.{meters_text};
@@ -34,9 +34,9 @@ pub extern "C" fn hrislanoth_receive_metered(
     port: u8,
     bytes: &[u8],
 ) -> MeteredAnswer
-    ensures sets_value { seen_lent head result.answer (left nodes starts ports sizes) (index_left order sets) ≡ seen_of (index_in head.count (index_entered order sets)) (metered_step counts.old head (entered nodes starts ports sizes) (index_entered order sets) port bytes.now) }
-    ensures lent_refusal_keeps { LentRefusalKeeps head (entered nodes starts ports sizes) (index_entered order sets) result.answer (left nodes starts ports sizes) (index_left order sets) }
-    ensures marked_after { meters_in counts.new result.marked ≡ meters_left counts.old marked head (entered nodes starts ports sizes) (index_entered order sets) port bytes.now }
+    ensures sets_value { seen_lent head result.answer (lists nodes.new starts.new ports.new sizes.new) (index_lists order.new sets.new) ≡ seen_of (index_in head.count (index_lists order.old sets.old)) (metered_step counts.old head (lists nodes.old starts.old ports.old sizes.old) (index_lists order.old sets.old) port bytes.now) }
+    ensures lent_refusal_keeps { LentRefusalKeeps head (lists nodes.old starts.old ports.old sizes.old) (index_lists order.old sets.old) result.answer (lists nodes.new starts.new ports.new sizes.new) (index_lists order.new sets.new) }
+    ensures marked_after { meters_in counts.new result.marked ≡ meters_left counts.old marked head (lists nodes.old starts.old ports.old sizes.old) (index_lists order.old sets.old) port bytes.now }
     ensures no_meter_keeps { NoMeterKeeps result.answer.refusal counts.old marked counts.new result.marked }
 {
     metering::receive_metered(

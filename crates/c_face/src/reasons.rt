@@ -2,7 +2,7 @@
 ghost use Rattle.std.specs.Prelude.{◌≡◌, [], ◌∷◌};
 ghost use Rattle.basics.specs.Refusals.{told};
 ghost use Rattle.gateway_rules.specs.Reasons.{reason_told};
-ghost use Rattle.gateway.specs.State.{entered, index_entered};
+ghost use Rattle.gateway.specs.State.{lists, index_lists};
 ghost use Rattle.gateway.specs.Asking.{lent_why};
 ghost use Rattle.c_face.specs.Flat.{told_reason};
 
@@ -34,7 +34,7 @@ pub extern "C" fn hrislanoth_why(
     asked: u8,
     bytes: &[u8],
 ) -> FlatReason
-    ensures { result ≡ told_reason (lent_why head (entered nodes starts ports sizes) (index_entered order sets) port asked bytes.now) }
+    ensures { result ≡ told_reason (lent_why head (lists nodes.now starts.now ports.now sizes.now) (index_lists order.now sets.now) port asked bytes.now) }
 {
     match gateway::why(
         head, nodes, starts, ports, sizes, order, sets, port, asked, bytes,

@@ -2,7 +2,7 @@
 ghost use Rattle.std.specs.Prelude.{◌≡◌, ◌≤◌, true, ◌||◌, [], length, if◌then◌else◌};
 ghost use Rattle.text.specs.Text.{filled, end_of};
 ghost use Rattle.index_rules.specs.Boxes.{Right};
-ghost use Rattle.gateway.specs.State.{Whole, gate_in, box_in, held, entered, index_held};
+ghost use Rattle.gateway.specs.State.{Whole, gate_in, box_in, lists, index_lists};
 ghost use Rattle.gateway.specs.Indexing.{WholeIndex};
 ghost use Rattle.replay.specs.Lines.{ports as legCount};
 ghost use Rattle.explanation.specs.Words.{event_in, leg_lines, entry_lines, accepted_report, no_report};
@@ -34,11 +34,11 @@ pub(crate) fn put(
     before: SoFar,
     text: &mut [u8],
 ) -> SoFar
-    requires whole { Whole (held nodes starts ports sizes) × WholeIndex (index_held order sets) × Right (box_in head (held nodes starts ports sizes) (index_held order sets)) }
+    requires whole { Whole (lists nodes.now starts.now ports.now sizes.now) × WholeIndex (index_lists order.now sets.now) × Right (box_in head (lists nodes.now starts.now ports.now sizes.now) (index_lists order.now sets.now)) }
     requires ports_value { (head.ports ≡ legCount) × (before.place.at ≤ length text.old) }
-    ensures place_value { result.place ≡ end_of before.place (entry_lines i (gate_in head (entered nodes starts ports sizes)) port bytes.now) text.old }
-    ensures text_after { text.new ≡ filled before.place (entry_lines i (gate_in head (entered nodes starts ports sizes)) port bytes.now) text.old }
-    ensures reported_value { result.reported ≡ (before.reported || accepted_report (gate_in head (entered nodes starts ports sizes)) port bytes.now) }
+    ensures place_value { result.place ≡ end_of before.place (entry_lines i (gate_in head (lists nodes.now starts.now ports.now sizes.now)) port bytes.now) text.old }
+    ensures text_after { text.new ≡ filled before.place (entry_lines i (gate_in head (lists nodes.now starts.now ports.now sizes.now)) port bytes.now) text.old }
+    ensures reported_value { result.reported ≡ (before.reported || accepted_report (gate_in head (lists nodes.now starts.now ports.now sizes.now)) port bytes.now) }
 {
     let place = before.place;
     let WhyAnswer::Refused(n) = gateway::why(
@@ -77,11 +77,11 @@ fn put_legs(
     at: Place,
     text: &mut [u8],
 ) -> Place
-    requires whole { Whole (held nodes starts ports sizes) × WholeIndex (index_held order sets) × Right (box_in head (held nodes starts ports sizes) (index_held order sets)) }
+    requires whole { Whole (lists nodes.now starts.now ports.now sizes.now) × WholeIndex (index_lists order.now sets.now) × Right (box_in head (lists nodes.now starts.now ports.now sizes.now) (index_lists order.now sets.now)) }
     requires ports_value { (head.ports ≡ legCount) × (at.at ≤ length text.old) }
-    requires bytes_value { accepted_report (gate_in head (held nodes starts ports sizes)) port bytes.now ≡ true }
-    ensures value { result ≡ end_of at (leg_lines legCount 0 i (gate_in head (entered nodes starts ports sizes)) port (event_in bytes.now)) text.old }
-    ensures text_after { text.new ≡ filled at (leg_lines legCount 0 i (gate_in head (entered nodes starts ports sizes)) port (event_in bytes.now)) text.old }
+    requires bytes_value { accepted_report (gate_in head (lists nodes.now starts.now ports.now sizes.now)) port bytes.now ≡ true }
+    ensures value { result ≡ end_of at (leg_lines legCount 0 i (gate_in head (lists nodes.now starts.now ports.now sizes.now)) port (event_in bytes.now)) text.old }
+    ensures text_after { text.new ≡ filled at (leg_lines legCount 0 i (gate_in head (lists nodes.now starts.now ports.now sizes.now)) port (event_in bytes.now)) text.old }
 {
     let event = numbers::read_at(bytes, 8, 8);
     let mut next = at;

@@ -3,7 +3,7 @@ ghost use Rattle.std.specs.Prelude.{◌≡◌};
 ghost use Rattle.text.specs.Text.{filled, end_of};
 ghost use Rattle.gateway_rules.specs.Reasons.{number_in};
 ghost use Rattle.index_rules.specs.Boxes.{Right};
-ghost use Rattle.gateway.specs.State.{Whole, gate_in, box_in, held, entered, index_held};
+ghost use Rattle.gateway.specs.State.{Whole, gate_in, box_in, lists, index_lists};
 ghost use Rattle.gateway.specs.Indexing.{WholeIndex};
 ghost use Rattle.gateway.specs.Asking.{answer_told};
 ghost use Rattle.reasons.specs.Lines.{line_for, answer_of};
@@ -26,10 +26,10 @@ pub(crate) fn put(
     at: Place,
     text: &mut [u8],
 ) -> Place
-    requires whole { Whole (held nodes starts ports sizes) × WholeIndex (index_held order sets) }
-    requires right { Right (box_in head (held nodes starts ports sizes) (index_held order sets)) }
-    ensures value { result ≡ end_of at (answer_of (gate_in head (entered nodes starts ports sizes)) port bytes.now) text.old }
-    ensures text_after { text.new ≡ filled at (answer_of (gate_in head (entered nodes starts ports sizes)) port bytes.now) text.old }
+    requires whole { Whole (lists nodes.now starts.now ports.now sizes.now) × WholeIndex (index_lists order.now sets.now) }
+    requires right { Right (box_in head (lists nodes.now starts.now ports.now sizes.now) (index_lists order.now sets.now)) }
+    ensures value { result ≡ end_of at (answer_of (gate_in head (lists nodes.now starts.now ports.now sizes.now)) port bytes.now) text.old }
+    ensures text_after { text.new ≡ filled at (answer_of (gate_in head (lists nodes.now starts.now ports.now sizes.now)) port bytes.now) text.old }
 {
     let refusal = refused_with(gateway::why(
         head, nodes, starts, ports, sizes, order, sets, port, 0, bytes,
@@ -66,10 +66,10 @@ fn put_port(
     at: Place,
     text: &mut [u8],
 ) -> Place
-    requires whole { Whole (held nodes starts ports sizes) × WholeIndex (index_held order sets) }
-    requires right { Right (box_in head (held nodes starts ports sizes) (index_held order sets)) }
-    ensures value { result ≡ end_of at (line_for (gate_in head (entered nodes starts ports sizes)) port bytes.now asked) text.old }
-    ensures text_after { text.new ≡ filled at (line_for (gate_in head (entered nodes starts ports sizes)) port bytes.now asked) text.old }
+    requires whole { Whole (lists nodes.now starts.now ports.now sizes.now) × WholeIndex (index_lists order.now sets.now) }
+    requires right { Right (box_in head (lists nodes.now starts.now ports.now sizes.now) (index_lists order.now sets.now)) }
+    ensures value { result ≡ end_of at (line_for (gate_in head (lists nodes.now starts.now ports.now sizes.now)) port bytes.now asked) text.old }
+    ensures text_after { text.new ≡ filled at (line_for (gate_in head (lists nodes.now starts.now ports.now sizes.now)) port bytes.now asked) text.old }
 {
     let reason = number_of(gateway::why(
         head, nodes, starts, ports, sizes, order, sets, port, asked, bytes,
