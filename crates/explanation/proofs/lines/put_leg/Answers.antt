@@ -1,0 +1,14 @@
+use Rattle.text.specs.Text.{decimal, ascii}
+use Rattle.text.proofs.Laws.{remains_first, remains_next, remains_last}
+use Rattle.explanation.specs.Words.{reason_text, leg_line}
+use Rattle.explanation.proofs.lines.put_leg.Goals as goal
+
+pub returns : goal.returns
+unfolding leg_line
+returns c =
+    let r1 = remains_first c.args.at (decimal c.args.i) _ c.args.text.now c.put_decimal-p1.ensures.value c.put_decimal-p1.ensures.out_after in
+    let r2 = remains_next (ascii ": leg ") r1 c.put-p2.ensures.value c.put-p2.ensures.out_after in
+    let r3 = remains_next (decimal c.args.leg) r2 c.put_decimal-p3.ensures.value c.put_decimal-p3.ensures.out_after in
+    let r4 = remains_next (reason_text c.args.event c.args.reason) r3 c.put_reason-p4.ensures.value c.put_reason-p4.ensures.text_after in
+    let both = remains_last r4 c.put.ensures.value c.put.ensures.out_after in
+    record { value = both.0; text_after = both.1 }
