@@ -1,12 +1,12 @@
 /* The proved box and boards, for C and for what links with C.
  *
  * Every function answers every input that C can write down: a refusal has a number (document 01, "Refusal numbers", and 15 to 20 and 29 of document 02), 0 is none. A refusal changes
- * no output byte; a box or a board comes back as it was, a lent box's marks and count as they were, and every other number beside it is 0. Meters stand apart:
- * a message that cannot be read is counted (document 02, W7). Nothing is kept between calls and nothing is allocated.
+ * no output byte; a box or a board comes back as it was, a lent box's marks and count as they were, and every other number beside it is 0. Nothing is kept
+ * between calls and nothing is allocated.
  *
  * Memory is the caller's. A pointer and a length stand for that many bytes, or that many numbers or slots of a list, which the caller owns and keeps for the
  * call, and which no other thread writes meanwhile, or reads where the call writes. No pointer is kept. A pointer is never NULL, not even beside the length 0.
- * What a call writes (out, text, a box's lists and counts, a board's slots, or its statuses and marks) overlaps nothing else that it is given: the lists neither
+ * What a call writes (out, text, a box's lists, a board's slots, or its statuses and marks) overlaps nothing else that it is given: the lists neither
  * each other nor the bytes. Those three are all that a caller has to keep; nothing tests them.
  *
  * Link with target/staticlib/libc_face.a, which `rt staticlib c_face` writes, on x86-64.
@@ -191,37 +191,6 @@ hrislanoth_reason hrislanoth_why(hrislanoth_head head, const uint64_t *nodes, si
                                  const uint8_t *order, size_t order_length, const uint64_t *sets, size_t sets_length, uint8_t port, uint8_t asked,
                                  const uint8_t *bytes, size_t length);
 
-/* ---- the box's meters (document 02, W7)
- *
- * Each port has a meter: five counts and a mark. counts is a list of 40; the meter of port p stands at 5p to 5p+4: messages accepted, messages refused, event reports in,
- * reports sent to it, reports held back from it. All zero, and no mark, is how meters begin; any counts and any set of marks are taken, and what belongs to a port that
- * the box does not have stays as it is.
- */
-
-/* The answer of the call on lent lists, and the set of marked meters afterwards, bit p for port p. */
-typedef struct {
-    hrislanoth_lent_answer answer;
-    uint8_t marked;
-} hrislanoth_metered;
-
-/* hrislanoth_receive_lent with meters: 7 before all else where counts is not exactly 40 long, otherwise its answer, and its changes in the lists. marked is the set of marked
- * meters before. An accepted message counts as accepted at its port; an event report, 05B4 or 0F14, also as a report in there, and at every other port of the box as sent or as
- * held back. A refusal 1 to 5 counts as refused at its port, 7 and 8 are on no meter. A count that would pass 4,294,967,295 stays there and marks its meter; a mark stays. */
-hrislanoth_metered hrislanoth_receive_metered(hrislanoth_head head, uint64_t *nodes, size_t nodes_length, uint64_t *starts, size_t starts_length,
-                                              uint8_t *ports, size_t ports_length, uint8_t *sizes, size_t sizes_length,
-                                              uint8_t *order, size_t order_length, uint64_t *sets, size_t sets_length,
-                                              uint32_t *counts, size_t counts_length, uint8_t marked, uint8_t port,
-                                              const uint8_t *bytes, size_t length);
-
-/* Whether there is a share, 1 or 0, and if so the share in tenths of a per cent, otherwise 0. */
-typedef struct {
-    uint8_t some;
-    uint64_t tenths;
-} hrislanoth_share;
-
-/* Held back in tenths of a per cent of sent plus held back, to the nearest, halves up; none where that sum is 0. The sum may pass 64 bits. */
-hrislanoth_share hrislanoth_share_of(uint64_t sent, uint64_t held);
-
 /* ---- the board (document 01, "Node") */
 
 /* state is 0 for not Initialized, 1 for Initialized; automatic is the block of automatically routed events. */
@@ -291,10 +260,6 @@ hrislanoth_node_answer hrislanoth_hear_lists(hrislanoth_node node, const uint8_t
 
 /* The text of a trial file, as much as fits into text; answers how many bytes that took. No file's text is longer than 18,000 bytes, which is proved. */
 size_t hrislanoth_trial_text(const uint8_t *file, size_t length, uint8_t *text, size_t room);
-
-/* The meters after a trial file, as much of their text as fits into text; answers how many bytes that took. A line for each of the four ports: the port, accepted, refused,
- * reports in, sent, held back, and the mark as 0 or 1; `bad file` for a bad one. */
-size_t hrislanoth_meters_text(const uint8_t *file, size_t file_length, uint8_t *text, size_t text_length);
 
 /* The text of a board file from byte skip on, as much as fits into text; answers how many bytes that took. No file's text is longer than 2,139,000 bytes,
  * which is proved: where fewer bytes than room are answered, the text is at its end. */

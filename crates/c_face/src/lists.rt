@@ -1,8 +1,8 @@
 // The board on four lists of numbers, one entry of each for a slot.
 ghost use Rattle.std.specs.Prelude.{◌≡◌, []};
 ghost use Rattle.node_rules.specs.declared.Call.TheVariants.{Initialise, Announce, Produce, SetStatus, Receive};
-ghost use Rattle.node.specs.Lent.{entered, left};
-ghost use Rattle.node.specs.Answers.{result, result_of, leaves, performed};
+ghost use Rattle.node.specs.Lent.{slots_of};
+ghost use Rattle.node.specs.Answers.{leaves, performed};
 
 use node::Answer;
 use node_rules::Node;
@@ -16,7 +16,7 @@ pub extern "C" fn hrislanoth_initialise_lists(
     marks: &mut [u8],
     out: &mut [u8],
 ) -> Answer
-    ensures* { λ a. ⌜ leaves a (left roles events statuses marks) out ≡ performed node Initialise [] (entered roles events statuses marks) out ⌝ }
+    ensures { leaves result (slots_of roles.now events.now statuses.new marks.new) out.new ≡ performed node Initialise [] (slots_of roles.now events.now statuses.old marks.old) out.old }
 {
     node::initialise(node, roles, events, statuses, marks, out)
 }
@@ -31,7 +31,7 @@ pub extern "C" fn hrislanoth_announce_lists(
     marks: &mut [u8],
     out: &mut [u8],
 ) -> Answer
-    ensures* { λ a. ⌜ leaves a (left roles events statuses marks) out ≡ performed node (Announce slot) [] (entered roles events statuses marks) out ⌝ }
+    ensures { leaves result (slots_of roles.now events.now statuses.new marks.new) out.new ≡ performed node (Announce slot) [] (slots_of roles.now events.now statuses.old marks.old) out.old }
 {
     node::announce(node, slot, roles, events, statuses, marks, out)
 }
@@ -46,7 +46,7 @@ pub extern "C" fn hrislanoth_produce_lists(
     marks: &mut [u8],
     out: &mut [u8],
 ) -> Answer
-    ensures* { λ a. ⌜ leaves a (left roles events statuses marks) out ≡ performed node (Produce slot) [] (entered roles events statuses marks) out ⌝ }
+    ensures { leaves result (slots_of roles.now events.now statuses.new marks.new) out.new ≡ performed node (Produce slot) [] (slots_of roles.now events.now statuses.old marks.old) out.old }
 {
     node::produce(node, slot, roles, events, statuses, marks, out)
 }
@@ -61,7 +61,7 @@ pub extern "C" fn hrislanoth_set_status_lists(
     statuses: &mut [u8],
     marks: &mut [u8],
 ) -> Answer
-    ensures* { λ a. ⌜ result a (left roles events statuses marks) [] ≡ result_of node (SetStatus slot status) [] (entered roles events statuses marks) [] ⌝ }
+    ensures { leaves result (slots_of roles.now events.now statuses.new marks.new) [] ≡ performed node (SetStatus slot status) [] (slots_of roles.now events.now statuses.old marks.old) [] }
 {
     node::set_status(node, slot, status, roles, events, statuses, marks)
 }
@@ -76,7 +76,7 @@ pub extern "C" fn hrislanoth_hear_lists(
     marks: &mut [u8],
     out: &mut [u8],
 ) -> Answer
-    ensures* { λ a. ⌜ leaves a (left roles events statuses marks) out ≡ performed node Receive bytes.now (entered roles events statuses marks) out ⌝ }
+    ensures { leaves result (slots_of roles.now events.now statuses.new marks.new) out.new ≡ performed node Receive bytes.now (slots_of roles.now events.now statuses.old marks.old) out.old }
 {
     node::receive(node, bytes, roles, events, statuses, marks, out)
 }

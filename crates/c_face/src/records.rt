@@ -1,7 +1,7 @@
 // The board on slot records: slot_records::perform for each call.
 ghost use Rattle.std.specs.Prelude.{◌≡◌, []};
 ghost use Rattle.node_rules.specs.declared.Call.TheVariants.{Initialise, Announce, Produce, SetStatus, Receive};
-ghost use Rattle.node.specs.Answers.{result, result_of, leaves, performed};
+ghost use Rattle.node.specs.Answers.{leaves, performed};
 ghost use Rattle.slot_records.specs.Apart.{apart};
 
 use node::Answer;
@@ -10,7 +10,7 @@ use slot_records::Slot;
 
 #[unsafe(no_mangle)]
 pub extern "C" fn hrislanoth_initialise(node: Node, slots: &mut [Slot], out: &mut [u8]) -> Answer
-    ensures* { λ a. ⌜ leaves a (apart slots.new) out ≡ performed node Initialise [] (apart slots.old) out ⌝ }
+    ensures { leaves result (apart slots.new) out.new ≡ performed node Initialise [] (apart slots.old) out.old }
 {
     slot_records::perform(node, Call::Initialise, b"", slots, out)
 }
@@ -22,7 +22,7 @@ pub extern "C" fn hrislanoth_announce(
     slots: &mut [Slot],
     out: &mut [u8],
 ) -> Answer
-    ensures* { λ a. ⌜ leaves a (apart slots.new) out ≡ performed node (Announce slot) [] (apart slots.old) out ⌝ }
+    ensures { leaves result (apart slots.new) out.new ≡ performed node (Announce slot) [] (apart slots.old) out.old }
 {
     slot_records::perform(node, Call::Announce(slot), b"", slots, out)
 }
@@ -34,7 +34,7 @@ pub extern "C" fn hrislanoth_produce(
     slots: &mut [Slot],
     out: &mut [u8],
 ) -> Answer
-    ensures* { λ a. ⌜ leaves a (apart slots.new) out ≡ performed node (Produce slot) [] (apart slots.old) out ⌝ }
+    ensures { leaves result (apart slots.new) out.new ≡ performed node (Produce slot) [] (apart slots.old) out.old }
 {
     slot_records::perform(node, Call::Produce(slot), b"", slots, out)
 }
@@ -46,7 +46,7 @@ pub extern "C" fn hrislanoth_set_status(
     status: u8,
     slots: &mut [Slot],
 ) -> Answer
-    ensures* { λ a. ⌜ result a (apart slots.new) [] ≡ result_of node (SetStatus slot status) [] (apart slots.old) [] ⌝ }
+    ensures { leaves result (apart slots.new) [] ≡ performed node (SetStatus slot status) [] (apart slots.old) [] }
 {
     slot_records::perform(node, Call::SetStatus(slot, status), b"", slots, &mut [])
 }
@@ -58,7 +58,7 @@ pub extern "C" fn hrislanoth_hear(
     slots: &mut [Slot],
     out: &mut [u8],
 ) -> Answer
-    ensures* { λ a. ⌜ leaves a (apart slots.new) out ≡ performed node Receive bytes.now (apart slots.old) out ⌝ }
+    ensures { leaves result (apart slots.new) out.new ≡ performed node Receive bytes.now (apart slots.old) out.old }
 {
     slot_records::perform(node, Call::Receive, bytes, slots, out)
 }
