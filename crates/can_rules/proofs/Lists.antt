@@ -10,9 +10,8 @@ use Rattle.basics.specs.Lists.{any, without}
 use Rattle.basics.proofs.Bools.{neither}
 use Rattle.basics.proofs.Lists.{any_append, length_without}
 use Rattle.can_rules.specs.Aliases.{repeats}
+
 -- The examples and the limits are checked before the laws: a wrong definition is refused there first, by a fact that is false.
-use Rattle.can_rules.proofs.Examples as examples
-use Rattle.can_rules.proofs.Limits as limits
 
 module _ {A : Type 0} where
   -- A list of which nothing is left out is the list.

@@ -1,5 +1,5 @@
 -- The list of aliases (document 02, W3).
-use Rattle.std.specs.Prelude.{ℕ, zero, suc, Bool, false, cond, not, ◌||◌, List, [], ◌∷◌, eqb, ltb, length, get_or}
+use Rattle.std.specs.Prelude.{ℕ, suc, Bool, false, cond, not, ◌||◌, List, [], ◌∷◌, eqb, ltb, length, get_or}
 use Rattle.basics.specs.Lists.{any}
 use Rattle.message.specs.Messages.{bad_node}
 

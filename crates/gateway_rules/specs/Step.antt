@@ -1,5 +1,5 @@
 -- What the box does with a message (document 01, "Gateway": "For a message accepted at port q", as document 02, W2 and W4, has it; order of refusals 7, 8, then reading).
-use Rattle.std.specs.Prelude.{ℕ, ◌+◌, ◌≡◌, ◌⊎◌, Bool, true, false, cond, not, ◌&&◌, ◌||◌, List, [], ◌∷◌, ◌++◌, eqb, leb, ltb, length}
+use Rattle.std.specs.Prelude.{ℕ, ◌≡◌, ◌⊎◌, Bool, true, false, cond, not, ◌&&◌, ◌||◌, List, [], ◌∷◌, ◌++◌, eqb, leb, ltb, length}
 use Rattle.range.specs.declared.Block.{Block}
 use Rattle.range.specs.Range.{in_block, inside}
 use Rattle.message.specs.declared.Message.{Message}

@@ -1,7 +1,7 @@
 -- M4: which messages say what.
 use Prim.Native.Nat.{ℕ}
 use mathlib.Core.Path.{◌≡◌, refl, sym, ap, ◌∙◌}
-use mathlib.Core.Bool.{Bool, true, false, cond, true≢false}
+use mathlib.Core.Bool.{Bool, true, cond, true≢false}
 use mathlib.Core.List.{[], ◌∷◌}
 use Rattle.range.specs.Range.{single, block_of}
 use Rattle.message.specs.declared.Kind.{Kind}

@@ -1,5 +1,5 @@
 -- What writing a message answers, and the output that it leaves (document 01, "Refusal numbers"; order of refusals when writing).
-use Rattle.std.specs.Prelude.{ℕ, ◌+◌, Bool, List, [], ◌∷◌, ◌++◌, ltb, length, drop}
+use Rattle.std.specs.Prelude.{ℕ, Bool, List, [], ◌∷◌, ◌++◌, ltb, length, drop}
 use Rattle.message.specs.declared.Message.{Message}
 use Rattle.message.specs.declared.Writing.{Writing}
 use Rattle.message.specs.declared.Writing.TheVariants.{Written, NotWritten}

@@ -13,7 +13,7 @@ use Rattle.message.specs.Messages.{bad_node, message_bytes}
 use Rattle.range.specs.Range.{in_block}
 use Rattle.node_rules.specs.declared.Call.{Call}
 use Rattle.node_rules.specs.declared.Call.TheVariants.{Initialise, Announce, Produce, SetStatus, Receive}
-use Rattle.node_rules.specs.Boards.{Binary, Slots, Board, initialized, advertised, unadvertised, event_of, mark_of, advertise}
+use Rattle.node_rules.specs.Boards.{Binary, Slots, Board, advertised, unadvertised, event_of, mark_of, advertise}
 use Rattle.node_rules.specs.Sending.{complete_by, whole_bytes, advertising}
 use Rattle.node_rules.specs.Calls.{Outcome, refusing, accepted, size, tests_of, outcome}
 use Rattle.node_rules.proofs.Pieces.{complete_content, complete_length}

@@ -1,9 +1,8 @@
 use Prim.Native.Nat.{◌<◌, ◌^◌}
 use mathlib.Core.Path.{◌≡◌, sym, ap, ◌∙◌}
-use mathlib.Core.Bool.{true, not}
+use mathlib.Core.Bool.{not}
 use native.Mathlib.Omega.{arith}
 use lib.Bits.{bit_or}
-use Rattle.range.specs.Range.{is_block}
 use Rattle.basics.specs.Refusals.{told}
 use Rattle.range.proofs.Masks.{ones_below}
 use Rattle.basics.proofs.Bools.{refuted, passed}

@@ -1,7 +1,5 @@
 use borrow.Author.Rules.{rules}
 use Rattle.replay.proofs.Longest.{text_whole}
-use Rattle.replay.proofs.whole.Reads as reads
-use Rattle.replay.proofs.whole.Lts as lts
 use Rattle.replay.proofs.whole.Goals as goal
 
 pub returns : goal.returns

@@ -1,5 +1,5 @@
 use borrow.Enum.Refused.{opened}
-use Prim.Native.Nat.{ℕ, ◌-◌}
+use Prim.Native.Nat.{ℕ}
 use mathlib.Core.Path.{◌≡◌, sym, ap, ◌∙◌}
 use native.Mathlib.Omega.{arith}
 use Rattle.range.specs.declared.Answer.TheVariants.{Yes}

@@ -1,4 +1,4 @@
-use Prim.Native.Nat.{ℕ, ◌-◌, ◌^◌}
+use Prim.Native.Nat.{ℕ, ◌^◌}
 use mathlib.Core.Path.{◌≡◌, sym, ap, ◌∙◌}
 use mathlib.Core.Bool.{Bool, ◌||◌}
 use mathlib.Core.List.{List}
@@ -22,8 +22,7 @@ overflow_add-above c = omega (arith, (c.type_inv.nodes c.loop-i.i).fits)
 
 pub loop-i-preserved-then-node-eq0 : goal.loop-i-preserved-then-node-eq0
 loop-i-preserved-then-node-eq0 c =
-    let at : ℕ → ℕ = λ i. get_or c.args.nodes.now i 0 in
-    (
+    let at : ℕ → ℕ = λ i. get_or c.args.nodes.now i 0 in (
       omega arith,
       omega (arith, (c.type_inv.nodes c.loop-i.i).fits),
       sym (now_more (λ n. eqb n 0) c.loop-i.i at (eq-eqb (at c.loop-i.i) 0 c.if-node-eq0.true)),
@@ -32,8 +31,7 @@ loop-i-preserved-then-node-eq0 c =
 
 pub loop-i-preserved : goal.loop-i-preserved
 loop-i-preserved c =
-    let at : ℕ → ℕ = λ i. get_or c.args.nodes.now i 0 in
-    (
+    let at : ℕ → ℕ = λ i. get_or c.args.nodes.now i 0 in (
       omega arith,
       omega (arith, (c.type_inv.nodes c.loop-i.i).fits),
       c.loop-i.invariant.2 ∙ sym (not_more (λ n. eqb n 0) c.loop-i.i at (ne_eqb (at c.loop-i.i) 0 c.if-node-eq0.false)),

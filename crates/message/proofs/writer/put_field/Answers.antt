@@ -24,9 +24,12 @@ overflow_add-result c = omega (arith, present_width c.args.width c.in-Present.is
 pub returns-in-Present : goal.returns-in-Present
 returns-in-Present c =
     let a = c.args in
-    let e = c.in-Present.is in record { value = ap (λ (n : ℕ). a.at + n) (sym (present_width a.width e)); out_after = c.write_at.ensures
+    let e = c.in-Present.is in record {
+      value = ap (λ (n : ℕ). a.at + n) (sym (present_width a.width e));
+      out_after = c.write_at.ensures
           ∙ sym (put_where_room _ a.width a.at a.out.now (omega (arith, present_width a.width e, c.requires)))
-          ∙ ap (λ (f : Field). pasted a.at (field_bytes a.width f) a.out.now) (sym e) }
+          ∙ ap (λ (f : Field). pasted a.at (field_bytes a.width f) a.out.now) (sym e);
+    }
 
 pub returns-in-Absent : goal.returns-in-Absent
 returns-in-Absent c =
