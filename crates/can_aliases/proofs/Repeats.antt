@@ -1,14 +1,14 @@
 -- A number that stands twice, looked for from the end of a list on, with a mark for the low bits of each number that was met.
 use Prim.Native.Nat.{ℕ, zero, suc, ◌-◌, ◌%◌, ◌≤◌, ◌<◌}
-use mathlib.Core.Path.{◌≡◌, refl, sym, ap, ap₂, subst, ◌∙◌}
+use mathlib.Core.Path.{◌≡◌, refl, sym, ap, ap₂, ◌∙◌}
 use mathlib.Core.Bool.{Bool, true, false, ◌&&◌, ◌||◌, or-true, false≢true}
 use mathlib.Core.List.{List, [], ◌∷◌}
 use native.Mathlib.Nat.{mod-lt}
 use native.Mathlib.Omega.{arith}
-use borrow.Author.Tests.{eqb-true, eqb-false, lt-ltb, le-ltb}
+use borrow.Author.Tests.{eqb-true, eqb-false}
 use lib.Dec.{eqb, ltb, lit<}
 use lib.ListN.{length, take, drop, get_or, set, length-drop, length-set}
-use lib.Seq.{drop-cons, drop-length, take_all, get_or-set_same, get_or-set_other}
+use lib.Seq.{drop-cons, take_all, get_or-set_same, get_or-set_other}
 use Rattle.basics.specs.Lists.{any}
 use Rattle.can_rules.specs.Aliases.{repeats, place_in}
 use Rattle.can_aliases.proofs.Lists.{stands_inside}
