@@ -1,11 +1,11 @@
 -- What each part answers, refusal by refusal.
-use Prim.Native.Nat.{ℕ, zero, suc, ◌+◌, ◌-◌, ◌*◌, ◌/◌, ◌%◌, ◌≤◌, ◌<◌}
+use Prim.Native.Nat.{ℕ, suc, ◌+◌, ◌/◌, ◌≤◌, ◌<◌}
 use mathlib.Core.Path.{◌≡◌, refl, sym, ap, ap₂, ◌∙◌}
 use mathlib.Core.Bool.{Bool, true, false, cond, not, ◌&&◌, ◌||◌, or-true, false≢true}
 use mathlib.Core.List.{List, [], ◌∷◌, ◌++◌, map}
 use native.Mathlib.Omega.{arith}
 use borrow.Author.Tests.{eq-eqb, ne_eqb, eqb-true, le-leb, lt-leb, le-ltb, lt-ltb, ltb-false}
-use lib.Dec.{eqb, leb, ltb}
+use lib.Dec.{eqb, leb}
 use lib.ListN.{length, take}
 use lib.Seq.{take_all, length-take-le}
 use Rattle.numbers.specs.Numbers.{number_in}
@@ -20,7 +20,7 @@ use Rattle.can_rules.specs.Aliases.{Aliases, bad_aliases}
 use Rattle.can_rules.specs.Joining.{Begun, begun, outcome, report, has_begun, of_sender, by, dropped, longer, is_other, wrong_length, continues, starts, overflows, finished, settled, sender_of, bad_joining, join}
 use Rattle.can.specs.declared.Gathered.{Gathered}
 use Rattle.can.specs.declared.Joining.{Joining}
-use Rattle.can.specs.States.{begun_of, state_of, handed_in, silence, Seen, seen_of, part_seen, frame_seen, overflowing, first_by}
+use Rattle.can.specs.States.{begun_of, state_of, handed_in, silence, seen_of, part_seen, frame_seen, overflowing, first_by}
 use Rattle.can.proofs.Places.{state_length}
 
 -- ---- the part of a header

@@ -1,20 +1,19 @@
 -- A payload that grows, and whether it may.
 use Prim.Native.Nat.{ℕ, zero, suc, ◌+◌, ◌-◌, ◌≤◌, ◌<◌}
 use mathlib.Core.Path.{◌≡◌, refl, sym, ap, ap₂, ◌∙◌}
-use mathlib.Core.Bool.{Bool, true, false, cond, not, ◌&&◌, ◌||◌, false≢true}
+use mathlib.Core.Bool.{Bool, true, false, ◌&&◌, ◌||◌, false≢true}
 use mathlib.Core.List.{List, [], ◌∷◌, ◌++◌, map, append_assoc, append-nil}
 use native.Mathlib.Nat.{le_trans, le-suc, add-zero}
 use native.Mathlib.Numerals.{add-one}
 use native.Mathlib.Omega.{arith}
-use borrow.Author.Tests.{ltb-true, ltb-false, lt-ltb, le-ltb, eq-eqb}
-use lib.Dec.{eqb, leb, ltb}
+use borrow.Author.Tests.{ltb-true, ltb-false, lt-ltb}
+use lib.Dec.{eqb, ltb}
 use lib.ListN.{length, get_or, set, take, length-set}
 use lib.Seq.{get_or-set_same, take-suc}
 use Rattle.basics.specs.Lists.{any, each}
-use Rattle.basics.specs.Lists.{first_or, without}
 use Rattle.basics.proofs.Bools.{same_truth, both, neither}
-use Rattle.basics.proofs.Lists.{any_append, without_append}
-use Rattle.can_rules.specs.Joining.{Begun, begun, too_long, has_begun, of_sender, by, longer}
+use Rattle.basics.proofs.Lists.{any_append}
+use Rattle.can_rules.specs.Joining.{Begun, begun, too_long, has_begun, of_sender, longer}
 use Rattle.can.specs.declared.Gathered.{Gathered}
 use Rattle.can.specs.declared.Joining.{Joining}
 use Rattle.can.specs.States.{payload_of, begun_of, state_of, in_use, overflowing, first_by}

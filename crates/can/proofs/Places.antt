@@ -1,18 +1,18 @@
 -- The two places of the code, and the rules' list of what is begun.
-use Prim.Native.Nat.{ℕ, zero, suc, ◌+◌, ◌-◌, ◌≤◌, ◌<◌}
+use Prim.Native.Nat.{ℕ, zero, suc, ◌-◌, ◌≤◌, ◌<◌}
 use mathlib.Core.Path.{◌≡◌, refl, sym, ap, ap₂, ◌∙◌}
-use mathlib.Core.Bool.{Bool, true, false, cond, not, ◌&&◌, ◌||◌, or-false, and-true, false≢true}
-use mathlib.Core.List.{List, [], ◌∷◌, ◌++◌, map, append-nil}
+use mathlib.Core.Bool.{Bool, true, false, cond, not, ◌&&◌, ◌||◌, or-false, false≢true}
+use mathlib.Core.List.{List, [], ◌∷◌, ◌++◌, map}
 use native.Mathlib.Omega.{arith}
-use borrow.Author.Tests.{ltb-true, ltb-false, lt-ltb, le-ltb, eqb-true}
-use lib.Dec.{eqb, leb, ltb}
+use borrow.Author.Tests.{ltb-true, lt-ltb, le-ltb}
+use lib.Dec.{eqb, ltb}
 use lib.ListN.{length}
 use Rattle.basics.specs.Lists.{any, without, each}
 use Rattle.basics.proofs.Lists.{any_append, without_append}
-use Rattle.basics.proofs.Bools.{both, neither}
+use Rattle.basics.proofs.Bools.{both}
 use Rattle.basics.proofs.Each.{each_length}
 use Rattle.can_rules.specs.Aliases.{repeats}
-use Rattle.can_rules.specs.Joining.{Begun, begun, bad_joining, too_long, has_begun, dropped, of_sender}
+use Rattle.can_rules.specs.Joining.{Begun, bad_joining, too_long, dropped, of_sender}
 use Rattle.can.specs.declared.Gathered.{Gathered}
 use Rattle.can.specs.declared.Joining.{Joining}
 use Rattle.can.specs.States.{payload_of, begun_of, gathered_at, state_of, in_use}
