@@ -1,3 +1,4 @@
+-- The Node ID at the alias's place, where there is one.
 use Prim.Native.Nat.{ℕ}
 use mathlib.Core.Path.{sym, ap, ◌∙◌}
 use native.Mathlib.Omega.{arith}

@@ -1,3 +1,4 @@
+-- One frame or more, by the MTI; each return is one of the ways that it can go.
 use native.Mathlib.Omega.{arith}
 use Rattle.can.proofs.Splits.{event_there, payload_there, too_small, whole_answer, more_no_room, more_answer}
 use Rattle.can.proofs.splitting.put_report.Goals as goal

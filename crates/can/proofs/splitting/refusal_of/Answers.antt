@@ -1,3 +1,4 @@
+-- Writing without room refuses with 2 to 5 or with 6, and 6 is then all that writing has against the message.
 use mathlib.Core.Path.{sym, ap, ◌∙◌}
 use mathlib.Core.Logic.{inl, inr}
 use mathlib.Core.Bool.{Bool, cond}

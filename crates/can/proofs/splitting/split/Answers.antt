@@ -1,3 +1,4 @@
+-- The tests in their order; with 7, 2 to 5, 29 and 16 passed only room is left.
 use mathlib.Core.Path.{sym, ◌∙◌}
 use Rattle.message.specs.Writing.{writing_told}
 use Rattle.can_rules.specs.Aliases.{listed}
