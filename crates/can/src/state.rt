@@ -1,7 +1,7 @@
 // The joining state: what is asked of it, and what becomes of it.
 ghost use Rattle.std.specs.Prelude.{◌≡◌, true, false, not, ◌&&◌, [], ◌∷◌, ◌++◌, map, ◌+◌, ◌≤◌, ◌<◌, eqb, ltb, length, take, replicate};
 ghost use Rattle.basics.specs.Lists.{any};
-ghost use Rattle.can_rules.specs.Joining.{begun, bad_joining, has_begun, dropped as droppedOf, longer as longerOf};
+ghost use Rattle.can_rules.specs.Joining.{begun, bad_joining, has_begun, dropped as dropped_of, longer as longer_of};
 ghost use Rattle.can.specs.States.{payload_of, begun_of, state_of, in_use, overflowing, first_by};
 
 use crate::{Gathered, Joining};
@@ -75,7 +75,7 @@ fn overflows_at(used: bool, sender: u64, length: usize, n: u64, more: usize) -> 
 // A sender's unfinished message is dropped.
 pub(crate) fn dropped(j: Joining, n: u64) -> Joining
     requires { j.count ≤ 2 }
-    ensures { state_of result ≡ droppedOf n (state_of j) }
+    ensures { state_of result ≡ dropped_of n (state_of j) }
 {
     let mut k = j;
     if is_of(0 < j.count, j.first.sender, n) {
@@ -126,7 +126,7 @@ pub(crate) fn empty(n: u64, event: u64) -> Gathered
 pub(crate) fn grown(j: Joining, n: u64, bytes: [u8; 8], size: usize) -> Joining
     requires count_bound { (j.count ≤ 2) × (size ≤ 8) }
     requires j_value { any (overflowing n size) (state_of j) ≡ false }
-    ensures { state_of result ≡ map (longerOf n (take size bytes)) (state_of j) }
+    ensures { state_of result ≡ map (longer_of n (take size bytes)) (state_of j) }
 {
     let old_first = j.first;
     let old_second = j.second;
@@ -141,7 +141,7 @@ pub(crate) fn grown(j: Joining, n: u64, bytes: [u8; 8], size: usize) -> Joining
 
 fn grown_at(used: bool, g: Gathered, n: u64, bytes: [u8; 8], size: usize) -> Gathered
     requires { (size ≤ 8) × (any (overflowing n size) (in_use used g) ≡ false) }
-    ensures { in_use used result ≡ map (longerOf n (take size bytes)) (in_use used g) }
+    ensures { in_use used result ≡ map (longer_of n (take size bytes)) (in_use used g) }
 {
     if is_of(used, g.sender, n) {
         return longer(g, bytes, size);
@@ -154,7 +154,7 @@ pub(crate) fn finished(j: Joining, n: u64, bytes: [u8; 8], size: usize) -> Gathe
     requires count_bound { (j.count ≤ 2) × (size ≤ 8) }
     requires j_value { has_begun n (state_of j) ≡ true }
     requires j_value_2 { any (overflowing n size) (state_of j) ≡ false }
-    ensures result_value { begun_of result ≡ longerOf n (take size bytes) (first_by n (state_of j)) }
+    ensures result_value { begun_of result ≡ longer_of n (take size bytes) (first_by n (state_of j)) }
     ensures size_le_length { size ≤ result.length }
 {
     if is_of(0 < j.count, j.first.sender, n) {
