@@ -1,3 +1,4 @@
+-- A good file's entries are told, any other is called bad.
 use mathlib.Core.Bool.{not}
 use mathlib.Core.Path.{ap}
 use Rattle.std.proofs.Common.{sym, ◌∙◌}

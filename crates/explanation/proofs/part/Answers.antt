@@ -1,3 +1,4 @@
+-- The buffer takes a part of the text.
 use Rattle.std.proofs.Common.{rules}
 use Rattle.text.proofs.Parts.{part_put}
 use Rattle.explanation.specs.Words.{text_of}

@@ -1,3 +1,4 @@
+-- No line before place 0, no number and no size, and no bit in 0.
 use mathlib.Core.List.{[]}
 use Rattle.index_rules.specs.Index.{index_of}
 use Rattle.gateway.specs.State.{gate_in}

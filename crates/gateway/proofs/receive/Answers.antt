@@ -1,3 +1,4 @@
+-- The lists are as long as they should be, so that lending them is a step of the box.
 use mathlib.Core.Path.{ap, ◌∙◌}
 use borrow.Author.Rules.{rules}
 use Rattle.gateway.specs.State.{lists_of, index_lists_of, box_of, Whole, head_with}

@@ -1,3 +1,4 @@
+-- Where fewer bytes are left than are asked for, all of them are read.
 use mathlib.Core.Path.{◌≡◌, refl, ◌∙◌}
 use Prim.Native.Nat.{◌+◌, ◌-◌}
 use native.Mathlib.Omega.{arith}

@@ -1,3 +1,4 @@
+-- The prefix above the run is the start of the block.
 use Rattle.range.specs.Range.{block_of}
 use Rattle.range.proofs.Runs.{run_of}
 use Rattle.range.proofs.block_of.Goals as goal

@@ -1,3 +1,4 @@
+-- Both are tested, and then each is inside the other or is not.
 use mathlib.Core.Path.{sym, ap, ap₂, ◌∙◌}
 use mathlib.Core.Bool.{Bool, ◌&&◌, and-false, not}
 use Rattle.basics.proofs.Bools.{refuted, passed}

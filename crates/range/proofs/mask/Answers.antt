@@ -1,3 +1,4 @@
+-- A shift makes each mask but that of all 64 bits.
 use Prim.Native.Nat.{ℕ, ◌-◌, ◌^◌}
 use mathlib.Core.Path.{◌≡◌, ap}
 use native.Mathlib.Omega.{arith}

@@ -1,3 +1,4 @@
+-- Past both tests the block has a number, and bit k of its start says which.
 use Prim.Native.Nat.{◌<◌, ◌^◌}
 use mathlib.Core.Path.{◌≡◌, sym, ap, ◌∙◌}
 use mathlib.Core.Bool.{not}

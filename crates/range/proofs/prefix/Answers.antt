@@ -1,3 +1,4 @@
+-- The complement of the mask picks the bits above it.
 use Rattle.range.proofs.Masks.{above_mask}
 use Rattle.range.proofs.prefix.Goals as goal
 

@@ -1,3 +1,4 @@
+-- A good file's last entry is asked, any other file is called bad.
 use mathlib.Core.Bool.{not}
 use mathlib.Core.Path.{sym, ◌∙◌, ap}
 use native.Mathlib.Omega.{arith}

@@ -1,3 +1,4 @@
+-- A good file's entries are run, any other is called bad.
 use mathlib.Core.Bool.{not}
 use mathlib.Core.Path.{sym, ◌∙◌, ap}
 use Rattle.replay.proofs.Texts.{text_bad, text_good}

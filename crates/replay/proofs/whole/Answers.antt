@@ -1,3 +1,4 @@
+-- The buffer is longer than any text.
 use borrow.Author.Rules.{rules}
 use Rattle.replay.proofs.Longest.{text_whole}
 use Rattle.replay.proofs.whole.Goals as goal

@@ -1,3 +1,4 @@
+-- The test on the digit is the definition's own.
 use borrow.Author.Tests.{lt-ltb, le-ltb}
 use Rattle.text.proofs.hex_digit.Goals as goal
 

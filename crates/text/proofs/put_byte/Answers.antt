@@ -1,3 +1,4 @@
+-- A byte is left out, put in, or does not fit.
 use mathlib.Core.Path.{◌∙◌}
 use native.Mathlib.Omega.{arith}
 use Rattle.text.proofs.Laws.{byte_skipped, byte_put, byte_past}

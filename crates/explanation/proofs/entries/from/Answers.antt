@@ -1,4 +1,4 @@
-use Rattle.std.proofs.Common.{◌-◌, length, sym, refl, ap, ◌∙◌, arith, rules}
+use Rattle.std.proofs.Common.{length, sym, refl, ap, ◌∙◌, arith, rules}
 use Rattle.text.proofs.Laws.{filled_length}
 use Rattle.gateway.specs.State.{lists, lists_of, index_lists, index_lists_of, index_in, gate_of, Whole}
 use Rattle.gateway.specs.Answers.{seen_of}

@@ -1,3 +1,4 @@
+-- A start with 4 ports is not refused.
 use Rattle.std.proofs.Common.{false, ap, ◌∙◌}
 use Rattle.text.specs.Text.{filled, end_of}
 use Rattle.gateway_rules.specs.State.{Gate}

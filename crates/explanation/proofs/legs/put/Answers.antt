@@ -1,3 +1,4 @@
+-- A reason makes it a report; a refusal is 15 or the gateway call's own.
 use Rattle.std.proofs.Common.{Bool, ◌||◌, sym, ap, ◌∙◌, arith}
 use mathlib.Core.Bool.{or-true, or-false}
 use Rattle.gateway.specs.State.{lists, index_lists, gate_in}

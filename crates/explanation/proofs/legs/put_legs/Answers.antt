@@ -1,4 +1,3 @@
-use Rattle.std.proofs.Common.{◌-◌}
 use Rattle.text.proofs.Laws.{remains_length}
 use Rattle.gateway.specs.State.{lists, index_lists, gate_in}
 use Rattle.explanation.specs.Words.{event_in}

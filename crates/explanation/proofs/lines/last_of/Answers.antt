@@ -1,3 +1,4 @@
+-- A block of 64 bits or more has all ones below it.
 use Rattle.std.proofs.Common.{ℕ, ◌+◌, ◌-◌, ◌%◌, ◌^◌, ap, ◌∙◌, pow_pos}
 use Rattle.range.proofs.Masks.{one_shifted}
 use Rattle.explanation.proofs.Events.{last_wide}

@@ -1,3 +1,4 @@
+-- One event, or the first and the last.
 use Rattle.std.proofs.Common.{◌≡◌, ◌++◌, ap, ◌∙◌, append-nil, eq-eqb, ne_eqb}
 use Rattle.range.specs.Range.{last}
 use Rattle.text.specs.Text.{ascii}

@@ -1,3 +1,4 @@
+-- The bytes are those of the number.
 use Rattle.explanation.proofs.lines.put_event.Goals as goal
 
 pub returns-clause-value : goal.returns-clause-value

@@ -1,3 +1,4 @@
+-- The pieces are put in one after the other.
 use Rattle.std.proofs.Common.{length, ap, ◌∙◌, rules}
 use Rattle.text.specs.Text.{decimal, ascii}
 use Rattle.text.proofs.Laws.{remains_first, remains_next, remains_last, filled_length}

@@ -1,3 +1,4 @@
+-- Each reason has its words.
 use Rattle.std.proofs.Common.{◌++◌}
 use Rattle.text.specs.Text.{ascii}
 use Rattle.text.proofs.Laws.{remains_first, remains_next, remains_last}

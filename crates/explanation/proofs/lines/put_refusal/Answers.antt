@@ -1,3 +1,4 @@
+-- The pieces of the line are put in one after the other.
 use Rattle.text.specs.Text.{decimal, ascii}
 use Rattle.text.proofs.Laws.{remains_first, remains_next, remains_last}
 use Rattle.explanation.specs.Words.{refused_line}

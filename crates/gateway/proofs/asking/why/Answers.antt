@@ -1,3 +1,4 @@
+-- The state and both ports; then the reading, and what it says.
 use borrow.Enum.Refused.{opened}
 use mathlib.Core.Path.{sym, ap, ◌∙◌}
 use mathlib.Core.List.{[], ◌∷◌}

@@ -1,3 +1,4 @@
+-- The tests in the code's order.
 use mathlib.Core.Path.{sym, ◌∙◌}
 use borrow.Author.Tests.{lt-ltb, le-ltb}
 use Rattle.gateway.proofs.bounds.bad_head.Goals as goal

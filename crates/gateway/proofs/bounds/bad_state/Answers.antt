@@ -1,3 +1,4 @@
+-- The first test that applies; the index last.
 use Rattle.gateway.specs.State.{lists, index_lists}
 use mathlib.Core.Path.{refl, sym, ◌∙◌}
 use Rattle.gateway.proofs.InBounds.{by_head, few_lines, lines_sized}

@@ -1,3 +1,4 @@
+-- The order first, then the sets.
 use mathlib.Core.Path.{sym, ap, ◌∙◌}
 use mathlib.Core.Bool.{Bool, not, ◌||◌}
 use Rattle.index_rules.specs.Index.{size_sets}

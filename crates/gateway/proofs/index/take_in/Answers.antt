@@ -1,3 +1,4 @@
+-- The number in the order, and the size in its set.
 use Rattle.gateway.proofs.Occurring.{line_put}
 use Rattle.gateway.proofs.index.take_in.Goals as goal
 

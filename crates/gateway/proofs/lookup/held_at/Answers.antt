@@ -1,3 +1,4 @@
+-- The sizes below 64, then the whole space.
 use mathlib.Core.Path.{sym, ◌∙◌}
 use native.Mathlib.Omega.{arith}
 use Rattle.gateway.proofs.Sizing.{found_below, whole_last}

@@ -1,3 +1,4 @@
+-- Field by field: the first that differs decides, and the number where none does.
 use borrow.Author.Rules.{rules}
 use lib.ListN.{get_or}
 use Rattle.gateway.proofs.Keys.{by_port, by_size_lem, by_event_lem, by_number}

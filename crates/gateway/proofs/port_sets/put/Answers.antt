@@ -1,3 +1,4 @@
+-- Adding the bit is at most doubling.
 use Prim.Native.Nat.{ℕ, ◌+◌}
 use mathlib.Core.Path.{sym, ap}
 use native.Mathlib.Omega.{arith}

@@ -1,3 +1,4 @@
+-- A port that is there already changes nothing; another is put in by its bit.
 use Prim.Native.Nat.{ℕ, ◌+◌, ◌^◌}
 use mathlib.Core.Path.{◌≡◌, ap, ◌∙◌}
 use mathlib.Core.Bool.{◌||◌}

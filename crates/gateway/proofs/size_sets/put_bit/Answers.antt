@@ -1,3 +1,4 @@
+-- A bit that is there already leaves the sets as they are; another is added.
 use Prim.Native.Nat.{ℕ, ◌+◌, ◌^◌}
 use mathlib.Core.Path.{◌≡◌, sym, ap, ◌∙◌}
 use mathlib.Core.Bool.{◌||◌}

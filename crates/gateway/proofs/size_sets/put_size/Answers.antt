@@ -1,3 +1,4 @@
+-- Below 64 the set of the port, at 64 the set behind them all.
 use native.Mathlib.Omega.{arith}
 use Rattle.gateway.proofs.SizePut.{small_put, whole_put}
 use Rattle.gateway.proofs.size_sets.put_size.Goals as goal

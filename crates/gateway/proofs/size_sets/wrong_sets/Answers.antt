@@ -1,3 +1,4 @@
+-- The sets made anew are compared with those given.
 use mathlib.Core.Path.{ap, ◌∙◌}
 use mathlib.Core.Bool.{not}
 use mathlib.Core.List.{List}

@@ -1,3 +1,4 @@
+-- A restart takes lines out, an announcement is heard as a line, and all else changes nothing.
 use borrow.Enum.Refused.{opened}
 use Prim.Native.Nat.{ℕ}
 use mathlib.Core.Path.{sym, ap, subst, ◌∙◌}

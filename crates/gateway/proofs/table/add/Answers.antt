@@ -1,3 +1,4 @@
+-- The line is put behind the others, whose index stays.
 use mathlib.Core.Path.{ap, ◌∙◌}
 use native.Mathlib.Omega.{arith}
 use Rattle.gateway_rules.specs.declared.Line.{Line}

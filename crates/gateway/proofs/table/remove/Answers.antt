@@ -1,3 +1,4 @@
+-- The falls begin at 0; what the pass over the lines leaves is what the index is to follow.
 use mathlib.Core.Path.{refl, ◌∙◌}
 use borrow.Author.Rules.{rules}
 use Rattle.gateway.specs.State.{lists, index_lists}

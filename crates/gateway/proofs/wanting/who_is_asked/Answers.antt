@@ -1,3 +1,4 @@
+-- A report is looked up unless its event is automatic.
 use borrow.Enum.Refused.{opened}
 use Rattle.range.specs.declared.Answer.TheVariants.{Yes, No, NoBlock}
 use Rattle.range.proofs.Laws.{answer_says}

@@ -1,3 +1,4 @@
+-- Only a Node ID that is there can be bad.
 use mathlib.Core.Path.{sym, ap, ◌∙◌}
 use Rattle.message.specs.Messages.{bad_where_present}
 use Rattle.message.proofs.content.bad_where_present.Goals as goal

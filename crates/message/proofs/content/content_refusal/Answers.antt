@@ -1,3 +1,4 @@
+-- Each return is reached by the tests above it, in the order of the list.
 use mathlib.Core.Path.{◌≡◌, sym, ap, ◌∙◌}
 use mathlib.Core.Bool.{true, false}
 use native.Mathlib.Omega.{arith}

@@ -1,3 +1,4 @@
+-- No content is too little where the table's least is above it.
 use borrow.Author.Tests.{lt-ltb, le-ltb}
 use Rattle.message.proofs.content.empty_refusal.Goals as goal
 

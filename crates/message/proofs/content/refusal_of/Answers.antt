@@ -1,3 +1,4 @@
+-- Each return is reached by the tests above it, in the order of the list.
 use mathlib.Core.Path.{sym, ◌∙◌}
 use Rattle.message.proofs.Laws.{nodes_source, nodes_destination, nodes_good, Placed, content_destination, content_event, content_rest, content_none}
 use Rattle.message.proofs.content.refusal_of.Goals as goal

@@ -1,3 +1,4 @@
+-- A field of at most eight bytes is read only where its flag is set.
 use mathlib.Core.Path.{sym, ap, ◌∙◌}
 use mathlib.Core.Bool.{Bool}
 use Rattle.numbers.specs.Numbers.{number_at}

@@ -1,3 +1,4 @@
+-- Each field stands where its MTI puts it.
 use Prim.Native.Nat.{ℕ}
 use mathlib.Core.Path.{ap, ◌∙◌}
 use Rattle.message.specs.Mti.{carries_event}

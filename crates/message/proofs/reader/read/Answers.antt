@@ -1,3 +1,4 @@
+-- The refusal, or the message of bytes that nothing is refused of.
 use Prim.Native.Nat.{ℕ}
 use mathlib.Core.Path.{ap, ◌∙◌}
 use Rattle.numbers.proofs.Laws.{number_at_below}

@@ -1,3 +1,4 @@
+-- The kind is that of the MTI, and the event and the destination are the message's own.
 use mathlib.Core.Path.{sym, ap₂, ◌∙◌}
 use Rattle.message.specs.declared.Meaning.{Meaning}
 use Rattle.message.specs.declared.Field.{Field}

@@ -1,3 +1,4 @@
+-- Without an event only a restart and an inquiry for all are left.
 use mathlib.Core.Path.{sym, ap}
 use Rattle.message.specs.declared.Kind.{Kind}
 use Rattle.message.specs.declared.Field.TheVariants.{Absent}

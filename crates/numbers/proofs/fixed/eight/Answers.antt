@@ -1,3 +1,4 @@
+-- A pair and six bytes make eight.
 use Rattle.numbers.proofs.Pairs.{number_eight}
 use Rattle.numbers.proofs.fixed.eight.Goals as goal
 

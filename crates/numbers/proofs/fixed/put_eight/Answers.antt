@@ -1,3 +1,4 @@
+-- Six bytes and the pair before them.
 use Prim.Native.Nat.{◌/◌}
 use mathlib.Core.Path.{ap, ◌∙◌}
 use Rattle.numbers.specs.Numbers.{bytes_of, pasted}

@@ -1,3 +1,4 @@
+-- Three pairs, the last first.
 use Prim.Native.Nat.{◌+◌, ◌/◌}
 use mathlib.Core.Path.{ap, ◌∙◌}
 use Rattle.numbers.specs.Numbers.{bytes_of, pasted}

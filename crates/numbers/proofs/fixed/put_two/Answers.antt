@@ -1,3 +1,4 @@
+-- Two bytes are put in as a pair.
 use Prim.Native.Nat.{◌+◌, ◌%◌}
 use native.Mathlib.Omega.{arith}
 use lib.ListN.{length-set}

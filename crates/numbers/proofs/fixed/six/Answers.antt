@@ -1,3 +1,4 @@
+-- Three pairs make six bytes.
 use native.Mathlib.Omega.{arith}
 use Rattle.numbers.proofs.Pairs.{number_six}
 use Rattle.numbers.proofs.fixed.six.Goals as goal

@@ -1,3 +1,4 @@
+-- Two bytes are read as a pair.
 use native.Mathlib.Omega.{arith}
 use Rattle.numbers.proofs.Pairs.{number_two}
 use Rattle.numbers.proofs.fixed.two.Goals as goal

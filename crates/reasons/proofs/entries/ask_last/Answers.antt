@@ -1,3 +1,4 @@
+-- The entries before the last have left the state in which it is asked, and its index is right.
 use Prim.Native.Nat.{ℕ}
 use mathlib.Core.Path.{◌≡◌, ap, ap₂, ◌∙◌}
 use mathlib.Core.List.{List}

@@ -1,3 +1,4 @@
+-- A line for each port where the first answer is a reason, else its refusal.
 use mathlib.Core.Path.{sym, ap, ◌∙◌}
 use mathlib.Core.List.{List}
 use Rattle.basics.specs.Refusals.{Told}

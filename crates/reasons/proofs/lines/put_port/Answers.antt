@@ -1,3 +1,4 @@
+-- The port, the reason and the new line, one after another.
 use Prim.Native.Nat.{ℕ}
 use mathlib.Core.Path.{◌≡◌, ap, ◌∙◌}
 use Rattle.text.specs.Text.{decimal, space, filled, end_of}

@@ -1,3 +1,4 @@
+-- A start with 4 ports is not refused.
 use mathlib.Core.Path.{ap, ◌∙◌}
 use borrow.Author.Rules.{rules}
 use Rattle.text.specs.Text.{filled, end_of}

@@ -1,3 +1,4 @@
+-- The pieces of the line are put in one after the other.
 use mathlib.Core.Path.{ap, ◌∙◌}
 use lib.ListN.{length}
 use Rattle.text.specs.Text.{decimal, space}

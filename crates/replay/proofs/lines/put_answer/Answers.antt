@@ -1,3 +1,4 @@
+-- A message that is taken has the digits of the ports, any other its number.
 use borrow.Author.Tests.{eq-eqb, ne_eqb}
 use Rattle.text.specs.Text.{decimal}
 use Rattle.text.proofs.Laws.{remains_first, remains_last}

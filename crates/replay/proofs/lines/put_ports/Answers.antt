@@ -1,3 +1,4 @@
+-- The digits of the four ports are put in one after the other.
 use Prim.Native.Nat.{ℕ, ◌%◌}
 use mathlib.Core.Path.{◌≡◌, ap}
 use native.Mathlib.Nat.{div-one}
