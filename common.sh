@@ -6,16 +6,32 @@ fail() {
   exit 1
 }
 
-# Has rt prove and build, unless that was done for these very sources: what is asked for, the log's name below target/, and the words for rt.
+# Has rt prove and build, unless that was done for these very sources: what is asked for, the log's name below target/, `run` for programs or `lib` for the archive,
+# and the crates. What rt builds stands in the crates' out/ and is put together below target/: programs in bin/, the archive in staticlib/.
 make_sure() {
-  local what="$1" log="target/$2"
-  shift 2
+  local what="$1" log="target/$2" kind="$3"
+  shift 3
   command -v rt >/dev/null || fail "there is no rt on the PATH: the Rattle kit is needed (README.md, \"What is needed\")"
-  mkdir -p "$(dirname "$here/$log")"
-  if ! (cd "$here" && rt "$@") 2>&1 | tee "$here/$log" | show_progress "$what" "${@:2}"; then
+  mkdir -p "$(dirname "$here/$log")" "$here/target/bin" "$here/target/staticlib"
+  if ! build_each "$kind" "$@" 2>&1 | tee "$here/$log" | show_progress "$what" "$@"; then
     tail -n 5 "$here/$log" >&2
     fail "that failed: $log has what rt said"
   fi
+}
+
+# rt builds a program when it runs it; on an empty input each ends at once, and what it prints is not wanted.
+build_each() {
+  local kind="$1" crate
+  shift
+  for crate in "$@"; do
+    if [ "$kind" = lib ]; then
+      (cd "$here/crates/$crate" && rt lib) || return 1
+      cp -u "$here/crates/$crate/out/lib$crate.a" "$here/target/staticlib/" || return 1
+    else
+      (cd "$here/crates/$crate" && rt run) </dev/null >/dev/null || return 1
+      cp -u "$here/crates/$crate/out/$crate" "$here/target/bin/" || return 1
+    fi
+  done
 }
 
 # Sets `starter`, the words before a program's path. Programs are built for x86-64; elsewhere the kit's own emulator runs them.

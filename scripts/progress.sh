@@ -4,7 +4,8 @@
 list_crates() {
   local needed=" $* " crate others place
   local -a listed=()
-  while IFS=': ' read -r crate others; do
+  while IFS=':' read -r crate others; do
+    crate="${crate%% *}"
     [[ -n "$crate" && "$crate" != '#'* ]] || continue
     listed+=("$crate")
     stands_on[$crate]=" $others "
@@ -18,38 +19,36 @@ list_crates() {
   done
 }
 
-# Sets `next` to the crates of `left` that stand on no other of them.
-find_next() {
-  local crate other
-  next=''
-  for crate in $left; do
-    for other in $left; do
-      [[ "${stands_on[$crate]}" != *" $other "* ]] || continue 2
-    done
-    next+="${next:+, }$crate"
-  done
+# Takes a crate and all that it stands on from `left`.
+take_off() {
+  local other
+  [[ "$left" == *" $1 "* ]] || return 0
+  left="${left/" $1 "/ }"
+  for other in ${stands_on[$1]}; do take_off "$other"; done
 }
 
-# Reads what rt prints: what is asked for, and the crates named. rt has a line at once for a crate that did not change, so a pause means work.
+# Reads what rt prints: what is asked for, and the crates named. rt names a crate when it begins to prove it, so five seconds with one crate mean work.
 show_progress() {
-  local what="$1" line status left next said='' words
+  local what="$1" line status left other said='' at_work='' since words
   local -A stands_on=()
   shift
   list_crates "$@"
+  since="$SECONDS"
   while true; do
     status=0
     IFS= read -r -t 5 line || status=$?
-    if [[ "$status" -eq 0 && "$line" =~ ^rt:\ ([A-Za-z0-9_]+)\ proved ]]; then
-      left="${left/" ${BASH_REMATCH[1]} "/ }"
-    elif [ "$status" -gt 128 ]; then
-      find_next
-      [ "$next" != "$said" ] && [ -n "$next" ] || continue
-      [ -n "$said" ] || echo "$me: making sure that $what proved and built (some minutes the first time) ..." >&2
-      said="$next"
-      read -ra words <<<"$left"
-      echo "$me: proving $next; crates to go: ${#words[@]}" >&2
-    elif [ "$status" -ne 0 ]; then
+    if [[ "$status" -eq 0 && "$line" =~ ^rt:\ chose\ .*\ for\ ([a-z0-9_]+)$ && "${BASH_REMATCH[1]}" != "$at_work" ]]; then
+      [ -z "$at_work" ] || take_off "$at_work"
+      at_work="${BASH_REMATCH[1]}"
+      for other in ${stands_on[$at_work]-}; do take_off "$other"; done
+      since="$SECONDS"
+    elif [[ "$status" -ne 0 && "$status" -le 128 ]]; then
       return 0
     fi
+    [ -n "$at_work" ] && [ "$at_work" != "$said" ] && [ $((SECONDS - since)) -ge 5 ] || continue
+    [ -n "$said" ] || echo "$me: making sure that $what proved and built (some minutes the first time) ..." >&2
+    said="$at_work"
+    read -ra words <<<"$left"
+    echo "$me: proving $at_work; crates to go: ${#words[@]}" >&2
   done
 }
