@@ -8,7 +8,7 @@ use Rattle.node_rules.specs.Sending.{all_bytes}
 use Rattle.node_rules.specs.Calls.{Outcome, outcome}
 use Rattle.node_rules.specs.Histories.{out_after}
 use Rattle.node.specs.declared.Answer.{Answer}
-use Rattle.node.specs.Lent.{Lent, board_of}
+use Rattle.node.specs.Lent.{board_of}
 
 pub record Result : Type 0 where
   pub answer : Answer
@@ -36,10 +36,10 @@ result_of node call bytes slots out = result_by out (outcome (board_of node slot
 abbrev pub LeavesSilently : Answer → Slots → Node → Call → Slots → Type 0
 LeavesSilently answer left node call entered = (out : List ℕ) → result answer left out ≡ result_of node call [] entered out
 
--- ---- both with the output that was lent
+-- ---- both for a clause, with the output as the call left it (`out.new`) and as it was lent (`out.old`)
 
-abbrev pub leaves : Answer → Slots → Lent → Result
-leaves answer slots out = result answer slots out.exit.now
+abbrev pub leaves : Answer → Slots → List ℕ → Result
+leaves answer slots out = result answer slots out
 
-abbrev pub performed : Node → Call → List ℕ → Slots → Lent → Result
-performed node call bytes slots out = result_of node call bytes slots out.entry.now
+abbrev pub performed : Node → Call → List ℕ → Slots → List ℕ → Result
+performed node call bytes slots out = result_of node call bytes slots out

@@ -3,7 +3,7 @@ ghost use Rattle.std.specs.Prelude.{◌≡◌, length};
 ghost use Rattle.basics.specs.Refusals.{first_of};
 ghost use Rattle.node_rules.specs.Boards.{bad_lengths, bad_record, bad_slot, bad_slots};
 ghost use Rattle.node_rules.specs.Calls.{board_tests};
-ghost use Rattle.node.specs.Lent.{slots_of, entered, board_of};
+ghost use Rattle.node.specs.Lent.{slots_of, board_of};
 
 use node_rules::Node;
 use range::RangeNumber;
@@ -16,7 +16,7 @@ pub(crate) fn refusal_of(
     statuses: &[u8],
     marks: &[u8],
 ) -> u8
-    ensures { result ≡ first_of (board_tests (board_of node (entered roles events statuses marks))) }
+    ensures { result ≡ first_of (board_tests (board_of node (slots_of roles.now events.now statuses.now marks.now))) }
 {
     if bad_lengths(roles.len(), events.len(), statuses.len(), marks.len()) {
         return 7;

@@ -3,7 +3,7 @@ ghost use Rattle.std.specs.Prelude.{◌≡◌, [], ◌*◌, ◌≤◌};
 ghost use Rattle.basics.specs.Refusals.{first_of};
 ghost use Rattle.node_rules.specs.Calls.{board_tests, slot_tests};
 ghost use Rattle.node_rules.specs.declared.Call.TheVariants.{Initialise, Announce, Produce, SetStatus, Receive};
-ghost use Rattle.node.specs.Lent.{entered, left, held, board_of};
+ghost use Rattle.node.specs.Lent.{slots_of, board_of};
 ghost use Rattle.node.specs.Answers.{answer as answerBy, leaves, performed, LeavesSilently};
 
 use crate::{Answer, hearing, replies, slots, writing};
@@ -18,8 +18,8 @@ pub(crate) fn initialise(
     marks: &mut [u8],
     out: &mut [u8],
 ) -> Answer
-    requires { first_of (board_tests (board_of node (held roles events statuses marks))) ≡ 0 }
-    ensures { leaves result (left roles events statuses marks) out ≡ performed node Initialise [] (entered roles events statuses marks) out }
+    requires { first_of (board_tests (board_of node (slots_of roles.now events.now statuses.now marks.old))) ≡ 0 }
+    ensures { leaves result (slots_of roles.now events.now statuses.now marks.new) out.new ≡ performed node Initialise [] (slots_of roles.now events.now statuses.now marks.old) out.old }
 {
     if out.len() < 14 {
         return refused(node, 6);
@@ -50,8 +50,8 @@ pub(crate) fn announce(
     marks: &mut [u8],
     out: &mut [u8],
 ) -> Answer
-    requires { first_of (board_tests (board_of node (held roles events statuses marks))) ≡ 0 }
-    ensures { leaves result (left roles events statuses marks) out ≡ performed node (Announce slot) [] (entered roles events statuses marks) out }
+    requires { first_of (board_tests (board_of node (slots_of roles.now events.now statuses.now marks.old))) ≡ 0 }
+    ensures { leaves result (slots_of roles.now events.now statuses.now marks.new) out.new ≡ performed node (Announce slot) [] (slots_of roles.now events.now statuses.now marks.old) out.old }
 {
     let refusal = slot_refusal(node, slot, roles, events, statuses, marks);
     if refusal != 0 {
@@ -74,8 +74,8 @@ pub(crate) fn produce(
     marks: &[u8],
     out: &mut [u8],
 ) -> Answer
-    requires { first_of (board_tests (board_of node (held roles events statuses marks))) ≡ 0 }
-    ensures { leaves result (left roles events statuses marks) out ≡ performed node (Produce slot) [] (entered roles events statuses marks) out }
+    requires { first_of (board_tests (board_of node (slots_of roles.now events.now statuses.now marks.now))) ≡ 0 }
+    ensures { leaves result (slots_of roles.now events.now statuses.now marks.now) out.new ≡ performed node (Produce slot) [] (slots_of roles.now events.now statuses.now marks.now) out.old }
 {
     let refusal = slot_refusal(node, slot, roles, events, statuses, marks);
     if refusal != 0 {
@@ -104,7 +104,7 @@ fn slot_refusal(
     statuses: &[u8],
     marks: &[u8],
 ) -> u8
-    ensures { result ≡ first_of (slot_tests (board_of node (entered roles events statuses marks)) slot) }
+    ensures { result ≡ first_of (slot_tests (board_of node (slots_of roles.now events.now statuses.now marks.now)) slot) }
 {
     if node.state != 1 {
         return 9;
@@ -121,8 +121,8 @@ pub(crate) fn set_status(
     statuses: &mut [u8],
     marks: &[u8],
 ) -> Answer
-    requires { first_of (board_tests (board_of node (held roles events statuses marks))) ≡ 0 }
-    ensures { LeavesSilently result (left roles events statuses marks) node (SetStatus slot status) (entered roles events statuses marks) }
+    requires { first_of (board_tests (board_of node (slots_of roles.now events.now statuses.old marks.now))) ≡ 0 }
+    ensures { LeavesSilently result (slots_of roles.now events.now statuses.new marks.now) node (SetStatus slot status) (slots_of roles.now events.now statuses.old marks.now) }
 {
     if roles.len() <= slot {
         return refused(node, 10);
@@ -143,8 +143,8 @@ pub(crate) fn receive(
     marks: &mut [u8],
     out: &mut [u8],
 ) -> Answer
-    requires { first_of (board_tests (board_of node (held roles events statuses marks))) ≡ 0 }
-    ensures { leaves result (left roles events statuses marks) out ≡ performed node Receive bytes.now (entered roles events statuses marks) out }
+    requires { first_of (board_tests (board_of node (slots_of roles.now events.now statuses.now marks.old))) ≡ 0 }
+    ensures { leaves result (slots_of roles.now events.now statuses.now marks.new) out.new ≡ performed node Receive bytes.now (slots_of roles.now events.now statuses.now marks.old) out.old }
 {
     let reading = message::read(bytes);
     let Reading::Read(m) = reading else {

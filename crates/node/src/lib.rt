@@ -10,8 +10,8 @@ mod writing;
 
 ghost use Rattle.std.specs.Prelude.{◌≡◌, []};
 ghost use Rattle.node_rules.specs.declared.Call.TheVariants.{Initialise, Announce, Produce, SetStatus, Receive};
-ghost use Rattle.node.specs.Lent.{entered, left};
-ghost use Rattle.node.specs.Answers.{result, result_of, leaves, performed};
+ghost use Rattle.node.specs.Lent.{slots_of};
+ghost use Rattle.node.specs.Answers.{leaves, performed};
 
 use node_rules::{Call, Node};
 
@@ -37,7 +37,7 @@ pub fn perform(
     marks: &mut [u8],
     out: &mut [u8],
 ) -> Answer
-    ensures* { λ a. ⌜ leaves a (left roles events statuses marks) out ≡ performed node call bytes.now (entered roles events statuses marks) out ⌝ }
+    ensures { leaves result (slots_of roles.now events.now statuses.new marks.new) out.new ≡ performed node call bytes.now (slots_of roles.now events.now statuses.old marks.old) out.old }
 {
     let refusal = bounds::refusal_of(node, roles, events, statuses, marks);
     if refusal != 0 {
@@ -63,7 +63,7 @@ pub fn initialise(
     marks: &mut [u8],
     out: &mut [u8],
 ) -> Answer
-    ensures* { λ a. ⌜ leaves a (left roles events statuses marks) out ≡ performed node Initialise [] (entered roles events statuses marks) out ⌝ }
+    ensures { leaves result (slots_of roles.now events.now statuses.new marks.new) out.new ≡ performed node Initialise [] (slots_of roles.now events.now statuses.old marks.old) out.old }
 {
     perform(
         node,
@@ -87,7 +87,7 @@ pub fn announce(
     marks: &mut [u8],
     out: &mut [u8],
 ) -> Answer
-    ensures* { λ a. ⌜ leaves a (left roles events statuses marks) out ≡ performed node (Announce slot) [] (entered roles events statuses marks) out ⌝ }
+    ensures { leaves result (slots_of roles.now events.now statuses.new marks.new) out.new ≡ performed node (Announce slot) [] (slots_of roles.now events.now statuses.old marks.old) out.old }
 {
     perform(
         node,
@@ -111,7 +111,7 @@ pub fn produce(
     marks: &mut [u8],
     out: &mut [u8],
 ) -> Answer
-    ensures* { λ a. ⌜ leaves a (left roles events statuses marks) out ≡ performed node (Produce slot) [] (entered roles events statuses marks) out ⌝ }
+    ensures { leaves result (slots_of roles.now events.now statuses.new marks.new) out.new ≡ performed node (Produce slot) [] (slots_of roles.now events.now statuses.old marks.old) out.old }
 {
     perform(
         node,
@@ -135,7 +135,7 @@ pub fn set_status(
     statuses: &mut [u8],
     marks: &mut [u8],
 ) -> Answer
-    ensures* { λ a. ⌜ result a (left roles events statuses marks) [] ≡ result_of node (SetStatus slot status) [] (entered roles events statuses marks) [] ⌝ }
+    ensures { leaves result (slots_of roles.now events.now statuses.new marks.new) [] ≡ performed node (SetStatus slot status) [] (slots_of roles.now events.now statuses.old marks.old) [] }
 {
     let mut none = [0u8; 0];
     perform(
@@ -160,7 +160,7 @@ pub fn receive(
     marks: &mut [u8],
     out: &mut [u8],
 ) -> Answer
-    ensures* { λ a. ⌜ leaves a (left roles events statuses marks) out ≡ performed node Receive bytes.now (entered roles events statuses marks) out ⌝ }
+    ensures { leaves result (slots_of roles.now events.now statuses.new marks.new) out.new ≡ performed node Receive bytes.now (slots_of roles.now events.now statuses.old marks.old) out.old }
 {
     perform(
         node,

@@ -7,7 +7,7 @@ ghost use Rattle.node_rules.specs.Boards.{advertise as advertiseOf};
 ghost use Rattle.node_rules.specs.Sending.{whole_bytes, all_bytes, identified};
 ghost use Rattle.node_rules.specs.Hearing.{answers_at, chosen, answering};
 ghost use Rattle.node_rules.specs.Calls.{replies, replied};
-ghost use Rattle.node.specs.Lent.{entered, left, held, board_of, EqualLengths};
+ghost use Rattle.node.specs.Lent.{slots_of, board_of, EqualLengths};
 
 use crate::{hearing, slots, writing};
 use message::Saying;
@@ -58,10 +58,10 @@ pub(crate) fn identify(
 )
     requires id_value { bad_node node.id ≡ false }
     requires slot_in_bounds { slot < length roles.now }
-    requires equal_lengths { EqualLengths (held roles events statuses marks) }
+    requires equal_lengths { EqualLengths (slots_of roles.now events.now statuses.now marks.old) }
     requires at_in_bounds { at + 16 ≤ length out.old }
-    ensures marks_value { left roles events statuses marks ≡ advertiseOf (entered roles events statuses marks) slot }
-    ensures out_after { out.new ≡ pasted at (whole_bytes (identified (board_of node (entered roles events statuses marks)) slot)) out.old }
+    ensures marks_value { slots_of roles.now events.now statuses.now marks.new ≡ advertiseOf (slots_of roles.now events.now statuses.now marks.old) slot }
+    ensures out_after { out.new ≡ pasted at (whole_bytes (identified (board_of node (slots_of roles.now events.now statuses.now marks.old)) slot)) out.old }
 {
     let role = roles[slot];
     let event = events[slot];
@@ -82,10 +82,10 @@ pub(crate) fn answer(
 )
     requires id_value { bad_node node.id ≡ false }
     requires automatic_value { is_block node.automatic ≡ true }
-    requires equal_lengths { EqualLengths (held roles events statuses marks) }
-    requires heard_in_bounds { length (answering (board_of node (held roles events statuses marks)) heard) * 16 ≤ length out.old }
-    ensures marks_value { board_of node (left roles events statuses marks) ≡ replied (board_of node (entered roles events statuses marks)) heard }
-    ensures out_after { out.new ≡ pasted 0 (all_bytes (replies (board_of node (entered roles events statuses marks)) heard)) out.old }
+    requires equal_lengths { EqualLengths (slots_of roles.now events.now statuses.now marks.old) }
+    requires heard_in_bounds { length (answering (board_of node (slots_of roles.now events.now statuses.now marks.old)) heard) * 16 ≤ length out.old }
+    ensures marks_value { board_of node (slots_of roles.now events.now statuses.now marks.new) ≡ replied (board_of node (slots_of roles.now events.now statuses.now marks.old)) heard }
+    ensures out_after { out.new ≡ pasted 0 (all_bytes (replies (board_of node (slots_of roles.now events.now statuses.now marks.old)) heard)) out.old }
 {
     let automatic = node.automatic;
     let mut at = 0;

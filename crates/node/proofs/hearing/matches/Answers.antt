@@ -1,0 +1,21 @@
+-- The set of the slots below their count, in 64 bits.
+use borrow.Enum.Refused.{opened}
+use mathlib.Core.Path.{sym, ap, ◌∙◌}
+use lib.ListN.{length}
+use Rattle.basics.specs.Sets.{set_of}
+use Rattle.message.specs.declared.Saying.{Saying}
+use Rattle.message.specs.Saying.{consumer}
+use Rattle.node_rules.specs.Boards.{has_at}
+use Rattle.node_rules.specs.Hearing.{matches_at}
+use Rattle.node.proofs.Matching.{set_within}
+use Rattle.node.proofs.Others.{matches_none}
+use Rattle.node.proofs.hearing.matches.Goals as goal
+
+pub returns-in-Report : goal.returns-in-Report
+returns-in-Report c =
+    let a = c.args in
+    let test = has_at a.roles.now a.events.now consumer c.in-Report.e in
+    c.having.ensures ∙ set_within (length a.roles.now) 64 test c.requires.1 ∙ ap (λ (s : Saying). set_of 64 (matches_at a.roles.now a.events.now s)) (sym c.in-Report.is)
+
+pub returns-in_default : goal.returns-in_default
+returns-in_default c = matches_none c.args.roles.now c.args.events.now c.args.heard (opened c.in_default.in_default-own.keys2)
