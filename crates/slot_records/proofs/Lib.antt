@@ -3,8 +3,3 @@ pub mod Gathered
 pub mod Together
 pub mod Called
 pub mod Fields
-pub mod Turns
-pub mod Lending
-pub mod Locals
-pub mod Parts
-pub mod Promised

@@ -6,7 +6,7 @@ use Rattle.node_rules.specs.Boards.{Slots}
 use Rattle.node_rules.specs.Sending.{all_bytes}
 use Rattle.node_rules.specs.Calls.{Outcome, outcome}
 use Rattle.node_rules.specs.Histories.{out_after}
-use Rattle.node.specs.Lent.{Lent, board_of}
+use Rattle.node.specs.Lent.{board_of}
 use Rattle.slot_records.specs.declared.Record.{Record}
 use Rattle.slot_records.specs.declared.starting.Started.{Started}
 
@@ -38,13 +38,13 @@ record_result_by r out o = record_result o.refusal (record_after r o) o.next.slo
 abbrev pub record_result_of : Record → Slots → List ℕ → RecordResult
 record_result_of r slots out = record_result_by r out (outcome (board_of (node_in r) slots) Initialise [] (length out))
 
--- ---- both with the output that was lent
+-- ---- both for a clause, with the output as the call left it (`out.new`) and as it was lent (`out.old`)
 
-abbrev pub leaves_record : ℕ → Record → Slots → Lent → RecordResult
-leaves_record refusal r slots out = record_result refusal r slots out.exit.now
+abbrev pub leaves_record : ℕ → Record → Slots → List ℕ → RecordResult
+leaves_record refusal r slots out = record_result refusal r slots out
 
-abbrev pub initialises_record : Record → Slots → Lent → RecordResult
-initialises_record r slots out = record_result_of r slots out.entry.now
+abbrev pub initialises_record : Record → Slots → List ℕ → RecordResult
+initialises_record r slots out = record_result_of r slots out
 
 -- The record that the by-value call sets.
 abbrev pub started_by : Record → Started → Record

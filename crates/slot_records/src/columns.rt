@@ -81,7 +81,7 @@ pub(crate) fn perform(
     columns: Columns,
     out: &mut [u8],
 ) -> Done
-    ensures out_value { leaves result.answer (used result.columns) out ≡ performed node call bytes.now (used columns) out }
+    ensures out_value { leaves result.answer (used result.columns) out.new ≡ performed node call bytes.now (used columns) out.old }
     ensures fits { Fits columns.count result.columns }
 {
     let roles = columns.roles;

@@ -6,7 +6,7 @@ mod slots;
 mod starting;
 
 ghost use Rattle.std.specs.Prelude.{◌≡◌};
-ghost use Rattle.node.specs.Lent.{entered, left};
+ghost use Rattle.node.specs.Lent.{slots_of};
 ghost use Rattle.node.specs.Answers.{leaves, performed};
 ghost use Rattle.slot_records.specs.Apart.{apart};
 ghost use Rattle.slot_records.specs.Records.{leaves_record, initialises_record};
@@ -35,7 +35,7 @@ pub struct Record {
 
 // node::perform on slot records.
 pub fn perform(node: Node, call: Call, bytes: &[u8], slots: &mut [Slot], out: &mut [u8]) -> Answer
-    ensures { leaves result (apart slots.new) out ≡ performed node call bytes.now (apart slots.old) out }
+    ensures { leaves result (apart slots.new) out.new ≡ performed node call bytes.now (apart slots.old) out.old }
 {
     let taken = slots::gather(slots);
     let done = columns::perform(node, call, bytes, taken, out);
@@ -51,7 +51,7 @@ pub fn initialise_record(
     marks: &mut [u8],
     out: &mut [u8],
 ) -> u8
-    ensures { leaves_record result own.new (left roles events statuses marks) out ≡ initialises_record own.old (entered roles events statuses marks) out }
+    ensures { leaves_record result own.new (slots_of roles.now events.now statuses.new marks.new) out.new ≡ initialises_record own.old (slots_of roles.now events.now statuses.old marks.old) out.old }
 {
     let started = starting::start(*own, roles, events, statuses, marks, out);
     own.state = started.state;

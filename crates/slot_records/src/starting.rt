@@ -1,6 +1,6 @@
 // node::initialise for a node's own record, by value.
 ghost use Rattle.std.specs.Prelude.{◌≡◌};
-ghost use Rattle.node.specs.Lent.{entered, left};
+ghost use Rattle.node.specs.Lent.{slots_of};
 ghost use Rattle.slot_records.specs.Records.{leaves_record, initialises_record, started_by};
 
 use crate::Record;
@@ -22,7 +22,7 @@ pub(crate) fn start(
     marks: &mut [u8],
     out: &mut [u8],
 ) -> Started
-    ensures { leaves_record result.refusal (started_by own result) (left roles events statuses marks) out ≡ initialises_record own (entered roles events statuses marks) out }
+    ensures { leaves_record result.refusal (started_by own result) (slots_of roles.now events.now statuses.new marks.new) out.new ≡ initialises_record own (slots_of roles.now events.now statuses.old marks.old) out.old }
 {
     let automatic = own.automatic;
     let node = Node {
