@@ -1,7 +1,7 @@
 // The calls of a board file, one after another.
 ghost use Rattle.std.specs.Prelude.{◌≡◌, true, ◌≤◌, ◌<◌, length};
 ghost use Rattle.text.specs.Text.{filled, end_of};
-ghost use Rattle.node.specs.Lent.{board_of, entered, left};
+ghost use Rattle.node.specs.Lent.{board_of, slots_of};
 ghost use Rattle.rehearsal.specs.Files.{good_call, good_calls, outcome_at, most_calls, calls_at, slot_count};
 ghost use Rattle.rehearsal.specs.Lines.{call_lines};
 ghost use Rattle.rehearsal.specs.Calls.{CallLeft};
@@ -25,8 +25,8 @@ pub(crate) fn run(
     requires file_len_bound { (length file.now ≤ 65536) × (slot_count file.now ≤ 100) × (calls_at file.now ≤ length file.now) }
     requires file_value { good_calls most_calls file.now (calls_at file.now) ≡ true }
     requires at_in_bounds { first.at ≤ length text.old }
-    ensures value { result ≡ end_of first (call_lines (board_of node (entered roles events statuses marks)) file.now) text.old }
-    ensures text_after { text.new ≡ filled first (call_lines (board_of node (entered roles events statuses marks)) file.now) text.old }
+    ensures value { result ≡ end_of first (call_lines (board_of node (slots_of roles.now events.now statuses.old marks.old)) file.now) text.old }
+    ensures text_after { text.new ≡ filled first (call_lines (board_of node (slots_of roles.now events.now statuses.old marks.old)) file.now) text.old }
 {
     let mut current = node;
     let mut next = first;
@@ -65,7 +65,7 @@ fn call(
     out: &mut [u8],
 ) -> Answer
     requires { (at < length file.now) × (good_call file.now at ≡ true) × (length out.old ≡ 2048) }
-    ensures { CallLeft (outcome_at (board_of node (entered roles events statuses marks)) file.now at) result (left roles events statuses marks) out.new }
+    ensures { CallLeft (outcome_at (board_of node (slots_of roles.now events.now statuses.old marks.old)) file.now at) result (slots_of roles.now events.now statuses.new marks.new) out.new }
 {
     let from = at + files::head_size(file[at]);
     let end = at + files::size_at(file, at);
