@@ -1,5 +1,4 @@
 -- The set of the slots below their count, in 64 bits.
-use borrow.Enum.Refused.{opened}
 use mathlib.Core.Path.{sym, ap, ◌∙◌}
 use lib.ListN.{length}
 use Rattle.basics.specs.Sets.{set_of}
@@ -8,7 +7,8 @@ use Rattle.message.specs.Saying.{consumer}
 use Rattle.node_rules.specs.Boards.{has_at}
 use Rattle.node_rules.specs.Hearing.{matches_at}
 use Rattle.node.proofs.Matching.{set_within}
-use Rattle.node.proofs.Others.{matches_none}
+use native.Mathlib.Omega.{arith}
+use Rattle.basics.proofs.Sets.{nobody}
 use Rattle.node.proofs.hearing.matches.Goals as goal
 
 pub returns-in-Report : goal.returns-in-Report
@@ -18,4 +18,4 @@ returns-in-Report c =
     c.having.ensures ∙ set_within (length a.roles.now) 64 test c.requires.1 ∙ ap (λ (s : Saying). set_of 64 (matches_at a.roles.now a.events.now s)) (sym c.in-Report.is)
 
 pub returns-in_default : goal.returns-in_default
-returns-in_default c = matches_none c.args.roles.now c.args.events.now c.args.heard (opened c.in_default.in_default-own.keys2)
+returns-in_default c = grind (arith, nobody 64)

@@ -1,6 +1,7 @@
 -- The tests in the order of the code.
-use Prim.Native.Nat.{◌+◌}
+use Prim.Native.Nat.{ℕ, ◌+◌}
 use mathlib.Core.Path.{◌≡◌}
+use mathlib.Core.List.{List}
 use native.Mathlib.Omega.{arith}
 use borrow.Author.Tests.{le-leb, lt-leb}
 use lib.Dec.{leb}
@@ -43,5 +44,7 @@ room_at-requires c = let a = c.args in omega (arith, c.if-file-at.false, c.size_
 
 pub returns : goal.returns
 returns c =
-    let left_to_test : good_call c.args.file.now c.args.at ≡ leb (room_at c.args.file.now c.args.at) 2048 = room_left c.args.file.now c.args.at c.if-call-lt1.false c.if-call-gt5.false (omega (arith, c.if-file-end.false, c.head_size.ensures)) (omega (arith, c.if-file-at.false, c.size_at.ensures)) in
+    let file : List ℕ = c.args.file.now in
+    let place : ℕ = c.args.at in
+    let left_to_test : good_call file place ≡ leb (room_at file place) 2048 = room_left file place c.if-call-lt1.false c.if-call-gt5.false (omega (arith, c.if-file-end.false, c.head_size.ensures)) (omega (arith, c.if-file-at.false, c.size_at.ensures)) in
     rw (c.room_at.ensures, left_to_test)

@@ -1,7 +1,6 @@
 -- Each arm is a case of the definition.
 use mathlib.Core.Path.{sym, ap}
 use Rattle.rehearsal.specs.Files.{head_size}
-use Rattle.rehearsal.proofs.Good.{head_other}
 use Rattle.rehearsal.proofs.files.head_size.Goals as goal
 
 pub returns-in-1 : goal.returns-in-1
@@ -12,6 +11,3 @@ returns-in-4 c = sym (ap head_size c.in-4.is)
 
 pub returns-in-5 : goal.returns-in-5
 returns-in-5 c = sym (ap head_size c.in-5.is)
-
-pub returns-in_default : goal.returns-in_default
-returns-in_default c = let r = c.in_default.in_default-own.rest in sym (head_other r.0.0.1 r.0.1 r.1)
