@@ -20,48 +20,56 @@ use Rattle.node.proofs.calls.receive.Goals as goal
 
 pub returns-in_default : goal.returns-in_default
 returns-in_default c =
+    let board : Board = let a = c.args in board_of a.node (slots_of a.roles.now a.events.now a.statuses.now a.marks.now) in
     let told = c.in_default.is in
     let n = c.refused_with.result in
-    let r = receive_unread (let a = c.args in board_of a.node (slots_of a.roles.now a.events.now a.statuses.now a.marks.now)) c.args.bytes.now (length c.args.out.now) n (sym (read_once _ c.args.bytes.now c.read-reading.ensures) ∙ told ∙ ap Refused (sym (c.refused_with.ensures ∙ ap refused_with told))) in
-    call_refused (let a = c.args in board_of a.node (slots_of a.roles.now a.events.now a.statuses.now a.marks.now)) Receive c.args.bytes.now c.args.out.now c.requires n c.refused.ensures r.0 r.1
+    let r = receive_unread board c.args.bytes.now (length c.args.out.now) n (sym (read_once _ c.args.bytes.now c.read-reading.ensures) ∙ told ∙ ap Refused (sym (c.refused_with.ensures ∙ ap refused_with told))) in
+    call_refused board Receive c.args.bytes.now c.args.out.now c.requires n c.refused.ensures r.0 r.1
 
 pub count_answers-count-requires : goal.count_answers-count-requires
 count_answers-count-requires c =
-    let known : Checked (let a = c.args in board_of a.node (slots_of a.roles.now a.events.now a.statuses.now a.marks.now)) = checked (let a = c.args in board_of a.node (slots_of a.roles.now a.events.now a.statuses.now a.marks.now)) c.requires in
+    let board : Board = let a = c.args in board_of a.node (slots_of a.roles.now a.events.now a.statuses.now a.marks.now) in
+    let known : Checked board = checked board c.requires in
     let k = known in
     record { automatic_value = k.block; events_len = k.lengths.events }
 
 pub no_room-no_room-requires : goal.no_room-no_room-requires
 no_room-no_room-requires c =
-    let known : Checked (let a = c.args in board_of a.node (slots_of a.roles.now a.events.now a.statuses.now a.marks.now)) = checked (let a = c.args in board_of a.node (slots_of a.roles.now a.events.now a.statuses.now a.marks.now)) c.requires in
-    few_answer (let a = c.args in board_of a.node (slots_of a.roles.now a.events.now a.statuses.now a.marks.now)) c.heard_by-heard.result c.count_answers-count.result c.count_answers-count.ensures known.few
+    let board : Board = let a = c.args in board_of a.node (slots_of a.roles.now a.events.now a.statuses.now a.marks.now) in
+    let known : Checked board = checked board c.requires in
+    few_answer board c.heard_by-heard.result c.count_answers-count.result c.count_answers-count.ensures known.few
 
 pub returns-then-no_room-ne0 : goal.returns-then-no_room-ne0
 returns-then-no_room-ne0 c =
+    let board : Board = let a = c.args in board_of a.node (slots_of a.roles.now a.events.now a.statuses.now a.marks.now) in
     let out = c.args.out.now in
-    call_refused (let a = c.args in board_of a.node (slots_of a.roles.now a.events.now a.statuses.now a.marks.now)) Receive c.args.bytes.now out c.requires c.no_room-no_room.result c.refused-then-no_room-ne0.ensures (receive_room (let a = c.args in board_of a.node (slots_of a.roles.now a.events.now a.statuses.now a.marks.now)) c.args.bytes.now (length out) _ (sym (read_once _ c.args.bytes.now c.read-reading.ensures) ∙ c.in-Read.is) c.heard_by-heard.result c.heard_by-heard.ensures c.count_answers-count.result c.count_answers-count.ensures ∙ sym c.no_room-no_room.ensures) c.if-no_room-ne0.true
+    call_refused board Receive c.args.bytes.now out c.requires c.no_room-no_room.result c.refused-then-no_room-ne0.ensures (receive_room board c.args.bytes.now (length out) _ (sym (read_once _ c.args.bytes.now c.read-reading.ensures) ∙ c.in-Read.is) c.heard_by-heard.result c.heard_by-heard.ensures c.count_answers-count.result c.count_answers-count.ensures ∙ sym c.no_room-no_room.ensures) c.if-no_room-ne0.true
 
 pub matches-matches-requires : goal.matches-matches-requires
 matches-matches-requires c =
-    let known : Checked (let a = c.args in board_of a.node (slots_of a.roles.now a.events.now a.statuses.now a.marks.now)) = checked (let a = c.args in board_of a.node (slots_of a.roles.now a.events.now a.statuses.now a.marks.now)) c.requires in
+    let board : Board = let a = c.args in board_of a.node (slots_of a.roles.now a.events.now a.statuses.now a.marks.now) in
+    let known : Checked board = checked board c.requires in
     let k = known in
     (k.lengths.events, k.few)
 
 pub answer-requires : goal.answer-requires
 answer-requires c =
-    let known : Checked (let a = c.args in board_of a.node (slots_of a.roles.now a.events.now a.statuses.now a.marks.now)) = checked (let a = c.args in board_of a.node (slots_of a.roles.now a.events.now a.statuses.now a.marks.now)) c.requires in
+    let board : Board = let a = c.args in board_of a.node (slots_of a.roles.now a.events.now a.statuses.now a.marks.now) in
+    let known : Checked board = checked board c.requires in
     let k = known in
     let n = c.count_answers-count.result in
-    record { id_value = k.node; automatic_value = k.block; equal_lengths = k.lengths; heard_in_bounds = answers_fit (let a = c.args in board_of a.node (slots_of a.roles.now a.events.now a.statuses.now a.marks.now)) c.heard_by-heard.result n c.count_answers-count.ensures _ (room_enough (n * 16) _ (sym c.if-no_room-ne0.false ∙ c.no_room-no_room.ensures)) }
+    record { id_value = k.node; automatic_value = k.block; equal_lengths = k.lengths; heard_in_bounds = answers_fit board c.heard_by-heard.result n c.count_answers-count.ensures _ (room_enough (n * 16) _ (sym c.if-no_room-ne0.false ∙ c.no_room-no_room.ensures)) }
 
 pub wrote-requires : goal.wrote-requires
 wrote-requires c =
-    let known : Checked (let a = c.args in board_of a.node (slots_of a.roles.now a.events.now a.statuses.now a.marks.now)) = checked (let a = c.args in board_of a.node (slots_of a.roles.now a.events.now a.statuses.now a.marks.now)) c.requires in
-    few_answer (let a = c.args in board_of a.node (slots_of a.roles.now a.events.now a.statuses.now a.marks.now)) c.heard_by-heard.result c.count_answers-count.result c.count_answers-count.ensures known.few
+    let board : Board = let a = c.args in board_of a.node (slots_of a.roles.now a.events.now a.statuses.now a.marks.now) in
+    let known : Checked board = checked board c.requires in
+    few_answer board c.heard_by-heard.result c.count_answers-count.result c.count_answers-count.ensures known.few
 
 pub returns : goal.returns
 returns c =
-    let b = (let a = c.args in board_of a.node (slots_of a.roles.now a.events.now a.statuses.now a.marks.now)) in
+    let board : Board = let a = c.args in board_of a.node (slots_of a.roles.now a.events.now a.statuses.now a.marks.now) in
+    let b = board in
     let bytes = c.args.bytes.now in
     let out = c.args.out.now in
     let heard = c.heard_by-heard.result in
