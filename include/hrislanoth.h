@@ -9,7 +9,7 @@
  * What a call writes (out, text, a box's lists, a board's slots, or its statuses and marks) overlaps nothing else that it is given: the lists neither
  * each other nor the bytes. Those three are all that a caller has to keep; nothing tests them.
  *
- * Link with target/staticlib/libc_face.a, which `rt staticlib c_face` writes, on x86-64.
+ * Link with crates/c_face/out/libc_face.a, which `rt lib` writes in crates/c_face, on x86-64.
  */
 #ifndef HRISLANOTH_H
 #define HRISLANOTH_H
