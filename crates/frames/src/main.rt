@@ -8,7 +8,7 @@ const MOST: usize = 65537;
 
 const PART: usize = 65536;
 
-// The text in parts, up to the first that does not fill the buffer: together they are the whole text (parts-whole).
+// The text in parts, up to the first that does not fill the buffer: together they are the whole text (parts_whole).
 fn main() {
     let mut file = [0u8; MOST];
     let length = io::read_full(STDIN_FILENO, &mut file);

@@ -1,4 +1,4 @@
--- The ways in which an accepted message can change the state: one for each case of the document. What a restart leaves is in `restart-leaves`.
+-- The ways in which an accepted message can change the state: one for each case of the document. What a restart leaves is in `restart_leaves`.
 use Prim.Native.Nat.{ℕ, zero, suc, ◌≤◌, ◌<◌}
 use mathlib.Core.Path.{◌≡◌, refl, ap, ◌∙◌}
 use mathlib.Core.Logic.{◌↔◌}

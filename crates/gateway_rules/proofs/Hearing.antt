@@ -21,7 +21,7 @@ use Rattle.gateway_rules.specs.History.{Entry, after, Heard, heard_at, heard_of,
 use Rattle.gateway_rules.proofs.Changes.{change_of}
 use Rattle.gateway_rules.proofs.Bounds.{Bounded, bounded_in, bounded_taken, same_box}
 
--- ---- leftBy in two parts
+-- ---- left_by in two parts
 
 pub left_append : (g : Gate) (h k : List Heard) → left_by g (h ++ k) ≡ left_by (left_by g h) k
 left_append g [] k = refl

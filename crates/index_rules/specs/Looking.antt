@@ -27,6 +27,6 @@ found_at x lines p e k = any (λ i. placed_at p k (beginning e k) (line_of lines
 unfoldable pub by_size : Index → List Line → ℕ → ℕ → Bool
 by_size x lines p e = any (λ k. has_size x p k && found_at x lines p e k) (each 65 (λ k. k))
 
--- The decision on a report that goes by the index: where it stood `any (lineHolds p e) lines` in `wants`, `by_size` stands.
+-- The decision on a report that goes by the index: where it stood `any (line_holds p e) lines` in `wants`, `by_size` stands.
 abbrev pub wants_by_size : Index → Gate → ℕ → ℕ → Bool
 wants_by_size x g p e = in_block g.automatic e || (g.marked p || by_size x g.lines p e)
