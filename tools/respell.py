@@ -119,6 +119,18 @@ def in_edit(text, new):
     return ''.join(respelled(l, new) if re.match(r'(old|new):', l) else l for l in text.splitlines(True))
 
 
+def aliases_of(text):
+    """The other names that a file's `use` lines give, where they are in camel case."""
+    found = {}
+    for line in re.findall(r'^\s*(?:ghost |pub )*use [^\n]*', text, re.M):
+        for name in re.findall(r' as ([a-z]+[A-Z]\w*)', line):
+            found[name] = snake(name)
+    for name, wanted in found.items():
+        if re.search(r'(?<![\w.])' + wanted + r'(?!\w)', text):
+            print('an alias is taken already:', wanted)
+    return found
+
+
 def in_page(text, new):
     """A page between its backticks."""
     return re.sub(r'`[^`\n]+`', lambda m: respelled(m.group(0).replace('`', ' '), new).replace(' ', '`', 1)[::-1].replace(' ', '`', 1)[::-1], text)
@@ -136,6 +148,19 @@ def main():
             if text != old:
                 path.write_text(text)
                 count += 1
+    for ending, turn in (('.antt', in_proof), ('.rt', in_source)):
+        for path in files(ending):
+            old = path.read_text()
+            names = aliases_of(old)
+            if not names:
+                continue
+            path.write_text(turn(old, names))
+            count += 1
+            crate = pathlib.Path('crates', path.parts[1])
+            for edit in sorted(crate.glob('must-fail/*.edit')):
+                said = edit.read_text()
+                if f'file: {path.relative_to(crate)}\n' in said:
+                    edit.write_text(in_edit(said, names))
     for path in [pathlib.Path('README.md'), pathlib.Path('CONTRIBUTING.md'), *sorted(pathlib.Path('docs').rglob('*.md'))]:
         old = path.read_text()
         text = in_page(old, in_sources)

@@ -1,7 +1,7 @@
 // The CAN side.
 ghost use Rattle.std.specs.Prelude.{◌≡◌, drop};
 ghost use Rattle.text.specs.Text.{filled_at, end_at};
-ghost use Rattle.framing.specs.Lines.{text_of as frameText};
+ghost use Rattle.framing.specs.Lines.{text_of as frame_text};
 ghost use Rattle.can_rules.specs.Aliases.{listed};
 ghost use Rattle.can_rules.specs.Joining.{join as join_of};
 ghost use Rattle.can_rules.specs.Splitting.{split_told, out_after_split};
@@ -43,8 +43,8 @@ pub extern "C" fn hrislanoth_split(
 
 #[unsafe(no_mangle)]
 pub extern "C" fn hrislanoth_frame_text(file: &[u8], skip: usize, text: &mut [u8]) -> usize
-    ensures value { result ≡ end_at 0 (drop skip (frameText file.now)) text.old }
-    ensures text_after { text.new ≡ filled_at 0 (drop skip (frameText file.now)) text.old }
+    ensures value { result ≡ end_at 0 (drop skip (frame_text file.now)) text.old }
+    ensures text_after { text.new ≡ filled_at 0 (drop skip (frame_text file.now)) text.old }
 {
     framing::frame_text(file, skip, text)
 }

@@ -19,8 +19,8 @@ ghost use Rattle.index_rules.specs.Index.{index_of};
 ghost use Rattle.index_rules.specs.Boxes.{box_step};
 ghost use Rattle.gateway.specs.State.{box_of, index_in, lists, index_lists};
 ghost use Rattle.gateway.specs.Answers.{seen_in, seen_of, RefusalKeeps, seen_lent, lent_step, LentRefusalKeeps};
-ghost use Rattle.replay.specs.Lines.{text_of as trialText};
-ghost use Rattle.rehearsal.specs.Lines.{text_of as boardText};
+ghost use Rattle.replay.specs.Lines.{text_of as trial_text};
+ghost use Rattle.rehearsal.specs.Lines.{text_of as board_text};
 ghost use Rattle.c_face.specs.Flat.{told_number, message_of, message_from, told_reading, told_writing, has_field, field_value, field_of};
 
 use gateway::{Answer, Gateway, Head, LentAnswer};
@@ -180,16 +180,16 @@ pub extern "C" fn hrislanoth_receive_lent(
 
 #[unsafe(no_mangle)]
 pub extern "C" fn hrislanoth_trial_text(file: &[u8], text: &mut [u8]) -> usize
-    ensures value { result ≡ end_at 0 (trialText file.now) text.old }
-    ensures text_after { text.new ≡ filled_at 0 (trialText file.now) text.old }
+    ensures value { result ≡ end_at 0 (trial_text file.now) text.old }
+    ensures text_after { text.new ≡ filled_at 0 (trial_text file.now) text.old }
 {
     replay::replay(file, text)
 }
 
 #[unsafe(no_mangle)]
 pub extern "C" fn hrislanoth_board_text(file: &[u8], skip: usize, text: &mut [u8]) -> usize
-    ensures value { result ≡ end_at 0 (drop skip (boardText file.now)) text.old }
-    ensures text_after { text.new ≡ filled_at 0 (drop skip (boardText file.now)) text.old }
+    ensures value { result ≡ end_at 0 (drop skip (board_text file.now)) text.old }
+    ensures text_after { text.new ≡ filled_at 0 (drop skip (board_text file.now)) text.old }
 {
     rehearsal::rehearse(file, skip, text)
 }

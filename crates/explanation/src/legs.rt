@@ -4,7 +4,7 @@ ghost use Rattle.text.specs.Text.{filled, end_of};
 ghost use Rattle.index_rules.specs.Boxes.{Right};
 ghost use Rattle.gateway.specs.State.{Whole, gate_in, box_in, lists, index_lists};
 ghost use Rattle.gateway.specs.Indexing.{WholeIndex};
-ghost use Rattle.replay.specs.Lines.{ports as legCount};
+ghost use Rattle.replay.specs.Lines.{ports as leg_count};
 ghost use Rattle.explanation.specs.Words.{event_in, leg_lines, entry_lines, accepted_report, no_report};
 
 use crate::lines;
@@ -35,7 +35,7 @@ pub(crate) fn put(
     text: &mut [u8],
 ) -> SoFar
     requires whole { Whole (lists nodes.now starts.now ports.now sizes.now) × WholeIndex (index_lists order.now sets.now) × Right (box_in head (lists nodes.now starts.now ports.now sizes.now) (index_lists order.now sets.now)) }
-    requires ports_value { (head.ports ≡ legCount) × (before.place.at ≤ length text.old) }
+    requires ports_value { (head.ports ≡ leg_count) × (before.place.at ≤ length text.old) }
     ensures place_value { result.place ≡ end_of before.place (entry_lines i (gate_in head (lists nodes.now starts.now ports.now sizes.now)) port bytes.now) text.old }
     ensures text_after { text.new ≡ filled before.place (entry_lines i (gate_in head (lists nodes.now starts.now ports.now sizes.now)) port bytes.now) text.old }
     ensures reported_value { result.reported ≡ (before.reported || accepted_report (gate_in head (lists nodes.now starts.now ports.now sizes.now)) port bytes.now) }
@@ -78,10 +78,10 @@ fn put_legs(
     text: &mut [u8],
 ) -> Place
     requires whole { Whole (lists nodes.now starts.now ports.now sizes.now) × WholeIndex (index_lists order.now sets.now) × Right (box_in head (lists nodes.now starts.now ports.now sizes.now) (index_lists order.now sets.now)) }
-    requires ports_value { (head.ports ≡ legCount) × (at.at ≤ length text.old) }
+    requires ports_value { (head.ports ≡ leg_count) × (at.at ≤ length text.old) }
     requires bytes_value { accepted_report (gate_in head (lists nodes.now starts.now ports.now sizes.now)) port bytes.now ≡ true }
-    ensures value { result ≡ end_of at (leg_lines legCount 0 i (gate_in head (lists nodes.now starts.now ports.now sizes.now)) port (event_in bytes.now)) text.old }
-    ensures text_after { text.new ≡ filled at (leg_lines legCount 0 i (gate_in head (lists nodes.now starts.now ports.now sizes.now)) port (event_in bytes.now)) text.old }
+    ensures value { result ≡ end_of at (leg_lines leg_count 0 i (gate_in head (lists nodes.now starts.now ports.now sizes.now)) port (event_in bytes.now)) text.old }
+    ensures text_after { text.new ≡ filled at (leg_lines leg_count 0 i (gate_in head (lists nodes.now starts.now ports.now sizes.now)) port (event_in bytes.now)) text.old }
 {
     let event = numbers::read_at(bytes, 8, 8);
     let mut next = at;

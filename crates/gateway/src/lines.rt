@@ -2,7 +2,7 @@
 ghost use Rattle.std.specs.Prelude.{◌≡◌, ◌⊎◌, true, false, [], ◌∷◌, ◌≤◌, ◌<◌, length};
 ghost use Rattle.index_rules.specs.Agreeing.{Falls};
 ghost use Rattle.range.specs.Range.{is_block};
-ghost use Rattle.gateway_rules.specs.Step.{within as withinOf};
+ghost use Rattle.gateway_rules.specs.Step.{within as within_of};
 ghost use Rattle.basics.specs.Lists.{any, without};
 ghost use Rattle.gateway.specs.Answers.{stands_as, goes_by, Comparable};
 ghost use Rattle.gateway.specs.Indexing.{Level};
@@ -96,7 +96,7 @@ pub(crate) fn looked_for(
 // Whether one line is inside another, or equal to it.
 fn within(a: Line, b: Line) -> bool
     requires { (is_block a.block ≡ true) × (is_block b.block ≡ true) }
-    ensures { result ≡ withinOf a b }
+    ensures { result ≡ within_of a b }
 {
     let x = a.block;
     let y = b.block;

@@ -2,7 +2,7 @@
 ghost use Rattle.std.specs.Prelude.{◌≡◌, true, false, ◌<◌};
 ghost use Rattle.range.specs.Range.{is_block};
 ghost use Rattle.gateway_rules.specs.State.{out_of_bounds};
-ghost use Rattle.gateway_rules.specs.Step.{announce as announceTo, hear as hearAt, holds_some, replacing, restart as restartOf, storing};
+ghost use Rattle.gateway_rules.specs.Step.{announce as announce_to, hear as hear_at, holds_some, replacing, restart as restart_of, storing};
 ghost use Rattle.gateway.specs.State.{Whole, lines_in, gate_in, gate_after, lists, index_lists};
 ghost use Rattle.gateway.specs.Answers.{AnnouncesBlock};
 ghost use Rattle.gateway.specs.Indexing.{IndexFits, WholeIndex};
@@ -36,7 +36,7 @@ pub(crate) fn hear(
     requires index_fits { IndexFits head.count (lists nodes.old starts.old ports.old sizes.old) (index_lists order.old sets.old) }
     requires sizes_value { out_of_bounds (gate_in head (lists nodes.old starts.old ports.old sizes.old)) ≡ false }
     requires port_lt_ports { (port < head.ports) × AnnouncesBlock saying }
-    ensures sizes_value_2 { gate_after head result (lists nodes.new starts.new ports.new sizes.new) ≡ hearAt (gate_in head (lists nodes.old starts.old ports.old sizes.old)) port node saying }
+    ensures sizes_value_2 { gate_after head result (lists nodes.new starts.new ports.new sizes.new) ≡ hear_at (gate_in head (lists nodes.old starts.old ports.old sizes.old)) port node saying }
     ensures index_fits_2 { IndexFits result.count (lists nodes.new starts.new ports.new sizes.new) (index_lists order.new sets.new) }
 {
     if let Saying::Restart = saying {
@@ -70,7 +70,7 @@ fn restart(
     requires whole { Whole (lists nodes.old starts.old ports.old sizes.old) × WholeIndex (index_lists order.old sets.old) }
     requires index_fits { IndexFits head.count (lists nodes.old starts.old ports.old sizes.old) (index_lists order.old sets.old) }
     requires sizes_value { out_of_bounds (gate_in head (lists nodes.old starts.old ports.old sizes.old)) ≡ false }
-    ensures sizes_value_2 { gate_after head result (lists nodes.new starts.new ports.new sizes.new) ≡ restartOf (gate_in head (lists nodes.old starts.old ports.old sizes.old)) node }
+    ensures sizes_value_2 { gate_after head result (lists nodes.new starts.new ports.new sizes.new) ≡ restart_of (gate_in head (lists nodes.old starts.old ports.old sizes.old)) node }
     ensures index_fits_2 { IndexFits result.count (lists nodes.new starts.new ports.new sizes.new) (index_lists order.new sets.new) }
 {
     let marks = head.marks;
@@ -101,7 +101,7 @@ fn announce(
     requires index_fits { IndexFits head.count (lists nodes.old starts.old ports.old sizes.old) (index_lists order.old sets.old) }
     requires sizes_value { out_of_bounds (gate_in head (lists nodes.old starts.old ports.old sizes.old)) ≡ false }
     requires port_lt_ports { (l.port < head.ports) × (is_block l.block ≡ true) }
-    ensures sizes_value_2 { gate_after head result (lists nodes.new starts.new ports.new sizes.new) ≡ announceTo (gate_in head (lists nodes.old starts.old ports.old sizes.old)) l }
+    ensures sizes_value_2 { gate_after head result (lists nodes.new starts.new ports.new sizes.new) ≡ announce_to (gate_in head (lists nodes.old starts.old ports.old sizes.old)) l }
     ensures index_fits_2 { IndexFits result.count (lists nodes.new starts.new ports.new sizes.new) (index_lists order.new sets.new) }
 {
     match lines::looked_for(head.count, nodes, starts, ports, sizes, l) {

@@ -1,7 +1,7 @@
 // What reading and writing both test of a message and its content.
 ghost use Rattle.std.specs.Prelude.{◌≡◌, cond, ltb};
 ghost use Rattle.basics.specs.Refusals.{first_of};
-ghost use Rattle.message.specs.Messages.{bad_node, bad_where_present, misplaced as isMisplaced, content_tests, rest_tests};
+ghost use Rattle.message.specs.Messages.{bad_node, bad_where_present, misplaced as is_misplaced, content_tests, rest_tests};
 ghost use Rattle.message.specs.Mti.{is_restart, meaning_of};
 
 use crate::{Field, Kind, Message, mti};
@@ -85,7 +85,7 @@ fn bad_where_present(field: Field) -> bool
 
 // Whether a field is present or absent against its flag.
 fn misplaced(flag: bool, field: Field) -> bool
-    ensures { result ≡ isMisplaced flag field }
+    ensures { result ≡ is_misplaced flag field }
 {
     match field {
         Field::Present(_) => !flag,

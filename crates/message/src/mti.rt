@@ -1,6 +1,6 @@
 // What an MTI means.
 ghost use Rattle.std.specs.Prelude.{◌≡◌};
-ghost use Rattle.message.specs.Mti.{meaning, meaning_of, event_at, content_at, barred as isBarred};
+ghost use Rattle.message.specs.Mti.{meaning, meaning_of, event_at, content_at, barred as is_barred};
 
 use crate::{Kind, Meaning};
 
@@ -52,7 +52,7 @@ pub(crate) fn event_at(mti: u16) -> usize
 
 // Refusal 2.
 pub(crate) fn barred(mti: u16) -> bool
-    ensures { result ≡ isBarred mti }
+    ensures { result ≡ is_barred mti }
 {
     if mti / 0x8000 % 2 == 1 {
         return true;

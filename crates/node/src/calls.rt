@@ -4,7 +4,7 @@ ghost use Rattle.basics.specs.Refusals.{first_of};
 ghost use Rattle.node_rules.specs.Calls.{board_tests, slot_tests};
 ghost use Rattle.node_rules.specs.declared.Call.TheVariants.{Initialise, Announce, Produce, SetStatus, Receive};
 ghost use Rattle.node.specs.Lent.{slots_of, board_of};
-ghost use Rattle.node.specs.Answers.{answer as answerBy, leaves, performed, LeavesSilently};
+ghost use Rattle.node.specs.Answers.{answer as answer_by, leaves, performed, LeavesSilently};
 
 use crate::{Answer, hearing, replies, slots, writing};
 use message::Reading;
@@ -163,7 +163,7 @@ pub(crate) fn receive(
 }
 
 pub(crate) fn refused(node: Node, number: u8) -> Answer
-    ensures { result ≡ answerBy number 0 0 0 node }
+    ensures { result ≡ answer_by number 0 0 0 node }
 {
     Answer {
         refusal: number,
@@ -177,7 +177,7 @@ pub(crate) fn refused(node: Node, number: u8) -> Answer
 // So many messages with an event, of 16 bytes each.
 fn wrote(node: Node, messages: usize, matches: u64) -> Answer
     requires { messages ≤ 64 }
-    ensures { result ≡ answerBy 0 messages (messages * 16) matches node }
+    ensures { result ≡ answer_by 0 messages (messages * 16) matches node }
 {
     Answer {
         refusal: 0,

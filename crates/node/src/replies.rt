@@ -3,7 +3,7 @@ ghost use Rattle.std.specs.Prelude.{◌≡◌, true, false, ◌+◌, ◌*◌, �
 ghost use Rattle.range.specs.Range.{is_block};
 ghost use Rattle.message.specs.Messages.{bad_node};
 ghost use Rattle.numbers.specs.Numbers.{pasted};
-ghost use Rattle.node_rules.specs.Boards.{advertise as advertiseOf};
+ghost use Rattle.node_rules.specs.Boards.{advertise as advertise_of};
 ghost use Rattle.node_rules.specs.Sending.{whole_bytes, all_bytes, identified};
 ghost use Rattle.node_rules.specs.Hearing.{answers_at, chosen, answering};
 ghost use Rattle.node_rules.specs.Calls.{replies, replied};
@@ -60,7 +60,7 @@ pub(crate) fn identify(
     requires slot_in_bounds { slot < length roles.now }
     requires equal_lengths { EqualLengths (slots_of roles.now events.now statuses.now marks.old) }
     requires at_in_bounds { at + 16 ≤ length out.old }
-    ensures marks_value { slots_of roles.now events.now statuses.now marks.new ≡ advertiseOf (slots_of roles.now events.now statuses.now marks.old) slot }
+    ensures marks_value { slots_of roles.now events.now statuses.now marks.new ≡ advertise_of (slots_of roles.now events.now statuses.now marks.old) slot }
     ensures out_after { out.new ≡ pasted at (whole_bytes (identified (board_of node (slots_of roles.now events.now statuses.now marks.old)) slot)) out.old }
 {
     let role = roles[slot];

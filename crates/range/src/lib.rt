@@ -2,7 +2,7 @@
 #![tactic(auto)]
 
 ghost use Rattle.std.specs.Prelude.{◌≡◌, ◌-◌, ◌*◌, ◌/◌, ◌^◌, ◌≤◌, true};
-ghost use Rattle.range.specs.Range.{run as run_of, is_block, inside as insideOf, block_of, single as singleOf};
+ghost use Rattle.range.specs.Range.{run as run_of, is_block, inside as inside_of, block_of, single as single_of};
 ghost use Rattle.range.specs.Answer.{yes_or_no, range_number, number_told, holds_told};
 ghost use Rattle.range.specs.Comparing.{comparison};
 
@@ -57,7 +57,7 @@ pub fn block_of(r: u64) -> Block
 
 // The block of one event.
 pub fn single(e: u64) -> Block
-    ensures { result ≡ singleOf e }
+    ensures { result ≡ single_of e }
 {
     Block { start: e, k: 0 }
 }
@@ -140,7 +140,7 @@ pub fn compare(a: Block, b: Block) -> Comparison
 // Whether one block is inside another, or equal to it: it is no larger, and its start is one of the other's numbers.
 fn inside(a: Block, b: Block) -> bool
     requires { (is_block a ≡ true) × (is_block b ≡ true) }
-    ensures { result ≡ insideOf a b }
+    ensures { result ≡ inside_of a b }
 {
     let k = b.k;
     let start = b.start;

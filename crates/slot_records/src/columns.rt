@@ -1,7 +1,7 @@
 // Slots in four lists of numbers, and a call of the node on them.
 ghost use Rattle.std.specs.Prelude.{◌≡◌};
 ghost use Rattle.node.specs.Answers.{leaves, performed};
-ghost use Rattle.slot_records.specs.Columns.{few, blank_of, placed, back as backOf, used, Fits};
+ghost use Rattle.slot_records.specs.Columns.{few, blank_of, placed, back as back_of, used, Fits};
 
 use crate::Slot;
 use node::Answer;
@@ -52,7 +52,7 @@ pub(crate) fn place(columns: Columns, i: usize, slot: Slot) -> Columns
 
 // Slot i of the columns after a call; beyond them it is as it was.
 pub(crate) fn back(done: Done, i: usize, slot: Slot) -> Slot
-    ensures { result ≡ backOf done.columns i slot }
+    ensures { result ≡ back_of done.columns i slot }
 {
     let columns = done.columns;
     if 65 <= i {

@@ -1,5 +1,5 @@
 use Rattle.std.proofs.Common.{◌-◌}
-use Rattle.replay.specs.Lines.{ports as legCount}
+use Rattle.replay.specs.Lines.{ports as leg_count}
 use Rattle.gateway.specs.State.{lists, gate_in}
 use Rattle.explanation.specs.Words.{event_in}
 use Rattle.explanation.proofs.Running.{Legs}
@@ -11,4 +11,4 @@ invariant-loop-leg l =
     Legs l.i (gate_in l.head (lists l.nodes l.starts l.ports l.sizes)) l.port (event_in l.bytes) l.initial.next l.initial.text l.leg l.next l.text
 
 abbrev pub decreases-loop-leg : goal.decreases-loop-leg
-decreases-loop-leg l = legCount - l.leg
+decreases-loop-leg l = leg_count - l.leg

@@ -6,14 +6,14 @@ use mathlib.Core.List.{List}
 use lib.ListN.{length, get_or, set}
 use Rattle.slot_records.specs.declared.Slot.{Slot}
 use Rattle.slot_records.specs.declared.columns.Columns.{Columns}
-use Rattle.slot_records.specs.Columns.{back as backOf, no_slot, scattered}
+use Rattle.slot_records.specs.Columns.{back as back_of, no_slot, scattered}
 use Rattle.slot_records.proofs.slots.scatter.Goals as goal
 
 scattered_none : (ss : List Slot) (d : Columns) → ss ≡ scattered ss d 0
 unfolding scattered
 scattered_none ss d = refl
 
-scattered_more : (ss : List Slot) (d : Columns) (k : ℕ) → set (scattered ss d k) k (backOf d k (get_or (scattered ss d k) k no_slot)) ≡ scattered ss d (k + 1)
+scattered_more : (ss : List Slot) (d : Columns) (k : ℕ) → set (scattered ss d k) k (back_of d k (get_or (scattered ss d k) k no_slot)) ≡ scattered ss d (k + 1)
 unfolding scattered
 scattered_more ss d k = ap (scattered ss d) (sym (add-one k))
 
@@ -25,7 +25,7 @@ loop-i-preserved c =
     let d = c.args.done.columns in
     let i = c.loop-i.i in
     let put = ap (set c.loop-i.slots i) c.back.ensures in
-    (omega arith, put ∙ ap (λ (zs : List Slot). set zs i (backOf d i (get_or zs i no_slot))) c.loop-i.invariant.1 ∙ scattered_more c.args.slots.now d i)
+    (omega arith, put ∙ ap (λ (zs : List Slot). set zs i (back_of d i (get_or zs i no_slot))) c.loop-i.invariant.1 ∙ scattered_more c.args.slots.now d i)
 
 pub returns : goal.returns
 returns c =
