@@ -4,12 +4,14 @@
 mod cases;
 mod report;
 
-fn main() {
-    cases::rows();
-    cases::neighbours();
-    cases::reserved_bits();
-    cases::lengths();
-    cases::node_ids();
-    cases::passed_along();
-    cases::writing();
+use std::io;
+
+fn main(rt: HostRuntime) -> io::Result<()> {
+    cases::rows(&rt)?;
+    cases::neighbours(&rt)?;
+    cases::reserved_bits(&rt)?;
+    cases::lengths(&rt)?;
+    cases::node_ids(&rt)?;
+    cases::passed_along(&rt)?;
+    cases::writing(&rt)
 }
