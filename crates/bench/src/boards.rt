@@ -21,7 +21,7 @@ pub(crate) struct Board {
 }
 
 // What a board wrote or matched, and the board afterwards.
-#[derive(Drop)]
+#[derive(Clone, Copy)]
 pub(crate) struct Done {
     pub(crate) board: Board,
     pub(crate) bytes: [u8; 32],

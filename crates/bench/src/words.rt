@@ -1,45 +1,36 @@
 // What is printed.
-use libc::{STDERR_FILENO, STDOUT_FILENO};
+use std::io;
 
-pub(crate) fn say(t: &[u8]) {
-    told(io::write_all(STDOUT_FILENO, t));
+pub(crate) fn say(rt: &impl Print, t: &[u8]) -> io::Result<()> {
+    rt.write_all(t)
 }
 
-fn say_number(n: u64) {
-    told(io::print_decimal(STDOUT_FILENO, n));
-}
-
-// What could not be written is told once: with both outputs closed nothing follows the gap.
-fn told(written: bool) {
-    if !written {
-        io::write_all(STDERR_FILENO, b"bench: the output is not whole\n");
-        libc::close(STDOUT_FILENO);
-        libc::close(STDERR_FILENO);
-    }
+fn say_number(rt: &impl Print, n: u64) -> io::Result<()> {
+    print!(rt; "{n}")
 }
 
 // The legs that a message is sent to.
-pub(crate) fn legs(sent: u8) {
+pub(crate) fn legs(rt: &impl Print, sent: u8) -> io::Result<()> {
     if sent == 0 {
-        say(b": to no leg");
-        return;
+        return say(rt, b": to no leg");
     }
-    say(b": to leg");
-    leg(sent % 2, 0);
-    leg(sent / 2 % 2, 1);
-    leg(sent / 4 % 2, 2);
-    leg(sent / 8 % 2, 3);
+    say(rt, b": to leg")?;
+    leg(rt, sent % 2, 0)?;
+    leg(rt, sent / 2 % 2, 1)?;
+    leg(rt, sent / 4 % 2, 2)?;
+    leg(rt, sent / 8 % 2, 3)
 }
 
-fn leg(bit: u8, number: u64) {
+fn leg(rt: &impl Print, bit: u8, number: u64) -> io::Result<()> {
     if bit == 1 {
-        say(b" ");
-        say_number(number);
+        say(rt, b" ")?;
+        say_number(rt, number)?;
     }
+    Ok(())
 }
 
-pub(crate) fn lines(count: usize) {
-    say(b"; lines in the table: ");
-    say_number(count as u64);
-    say(b"\n");
+pub(crate) fn lines(rt: &impl Print, count: usize) -> io::Result<()> {
+    say(rt, b"; lines in the table: ")?;
+    say_number(rt, count as u64)?;
+    say(rt, b"\n")
 }

@@ -4,6 +4,7 @@ use crate::boards::Board;
 use crate::words::{legs, lines, say};
 use gateway::{Answer, Gateway};
 use node_rules::Call;
+use std::io;
 
 pub(crate) const PANEL: usize = 0;
 
@@ -11,7 +12,7 @@ pub(crate) const SEVEN: usize = 1;
 
 pub(crate) const NINE: usize = 2;
 
-#[derive(Drop)]
+#[derive(Clone, Copy)]
 pub(crate) struct Yard {
     pub(crate) gateway: Gateway,
     pub(crate) boards: [Board; 3],
@@ -45,28 +46,28 @@ pub(crate) fn carried(y: Yard, who: usize, leg: u8) -> Yard {
     }
 }
 
-pub(crate) fn restarts(y: Yard, who: usize) -> Yard {
-    say(b"  Initialization Complete");
-    pass_on(y, who, Call::Initialise)
+pub(crate) fn restarts(rt: &impl Print, y: Yard, who: usize) -> io::Result<Yard> {
+    say(rt, b"  Initialization Complete")?;
+    pass_on(rt, y, who, Call::Initialise)
 }
 
-pub(crate) fn announces(y: Yard, who: usize) -> Yard {
-    say(b"  slot 0 identified");
-    let y = pass_on(y, who, Call::Announce(0));
-    say(b"  slot 1 identified");
-    pass_on(y, who, Call::Announce(1))
+pub(crate) fn announces(rt: &impl Print, y: Yard, who: usize) -> io::Result<Yard> {
+    say(rt, b"  slot 0 identified")?;
+    let y = pass_on(rt, y, who, Call::Announce(0))?;
+    say(rt, b"  slot 1 identified")?;
+    pass_on(rt, y, who, Call::Announce(1))
 }
 
 // The panel's reports go through the box, and each board on a leg that they are sent to looks at what reaches it.
-pub(crate) fn panel_tries(y: Yard) {
-    say(b"  the panel sets the route of board 7");
-    tries(y, 0);
-    say(b"  the panel sets the route of board 9");
-    tries(y, 1);
+pub(crate) fn panel_tries(rt: &impl Print, y: Yard) -> io::Result<()> {
+    say(rt, b"  the panel sets the route of board 7")?;
+    tries(rt, y, 0)?;
+    say(rt, b"  the panel sets the route of board 9")?;
+    tries(rt, y, 1)
 }
 
 // What a board writes goes to the box at its leg.
-fn pass_on(y: Yard, who: usize, call: Call) -> Yard {
+fn pass_on(rt: &impl Print, y: Yard, who: usize, call: Call) -> io::Result<Yard> {
     let mut boards = y.boards;
     let place = who % 3;
     let board = boards[place];
@@ -79,13 +80,13 @@ fn pass_on(y: Yard, who: usize, call: Call) -> Yard {
     boards[place] = after;
     let gateway = a.gateway;
     let head = gateway.head;
-    legs(a.sent);
-    lines(head.count);
-    Yard {
+    legs(rt, a.sent)?;
+    lines(rt, head.count)?;
+    Ok(Yard {
         gateway,
         boards,
         on,
-    }
+    })
 }
 
 // The first so many bytes reach the box.
@@ -94,7 +95,7 @@ fn taken(g: Gateway, leg: u8, bytes: [u8; 32], length: usize) -> Answer {
     gateway::receive(g, leg, &bytes[0..end])
 }
 
-fn tries(y: Yard, slot: usize) {
+fn tries(rt: &impl Print, y: Yard, slot: usize) -> io::Result<()> {
     let gateway = y.gateway;
     let boards = y.boards;
     let on = y.on;
@@ -104,18 +105,18 @@ fn tries(y: Yard, slot: usize) {
     let done = boards::does(panel, Call::Produce(slot), b"");
     let report = done.bytes;
     let a = taken(gateway, on[0], report, done.length);
-    legs(a.sent);
+    legs(rt, a.sent)?;
     if reaches(a.sent, on[1]) {
-        answers(b"; board 7 ", seven, report, done.length);
+        answers(rt, b"; board 7 ", seven, report, done.length)?;
         if reaches(a.sent, on[2]) {
-            answers(b", board 9 ", nine, report, done.length);
+            answers(rt, b", board 9 ", nine, report, done.length)?;
         }
     } else if reaches(a.sent, on[2]) {
-        answers(b"; board 9 ", nine, report, done.length);
+        answers(rt, b"; board 9 ", nine, report, done.length)?;
     } else {
-        say(b"; nothing moves");
+        say(rt, b"; nothing moves")?;
     }
-    say(b"\n");
+    say(rt, b"\n")
 }
 
 // Whether a message is sent to a leg of the four; any other number counts as the last.
@@ -129,13 +130,18 @@ fn reaches(sent: u8, leg: u8) -> bool {
 }
 
 // What a board makes of the report that reached it.
-fn answers(who: &[u8], board: Board, report: [u8; 32], length: usize) {
+fn answers(
+    rt: &impl Print,
+    who: &[u8],
+    board: Board,
+    report: [u8; 32],
+    length: usize,
+) -> io::Result<()> {
     let end = length % 33;
     let heard = boards::does(board, Call::Receive, &report[0..end]);
-    say(who);
+    say(rt, who)?;
     if heard.matches == 0 {
-        say(b"stands still");
-        return;
+        return say(rt, b"stands still");
     }
-    say(b"moves its points");
+    say(rt, b"moves its points")
 }

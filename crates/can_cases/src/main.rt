@@ -7,6 +7,7 @@ mod words;
 
 use can::Joining;
 use gateway::Gateway;
+use std::io;
 use words::{say, say_count};
 
 const EVENT: u64 = 0x0A00_0000_0007_0001;
@@ -21,22 +22,34 @@ const START_OF_6: u32 = 0x19F1_6606;
 
 const LAST_OF_6: u32 = 0x19F1_4606;
 
-fn main() {
+// What could not be written is told once: nothing follows the gap.
+fn main(rt: HostRuntime) {
+    if day(&rt).is_err() {
+        let _ = eprintln!(rt; "can_cases: the output is not whole");
+    }
+}
+
+fn day(rt: &impl Print) -> io::Result<()> {
     say(
+        rt,
         b"The box has 4 legs. Boards 5 and 9, on legs 2 and 3, announce board 7's event; board 8, on leg 1, announces its own\n",
-    );
+    )?;
     let g = announcements();
-    say(b"Board 7's report comes in on leg 0; board 6 begins one in between\n");
+    say(
+        rt,
+        b"Board 7's report comes in on leg 0; board 6 begins one in between\n",
+    )?;
     let event = [0x0A, 0, 0, 0, 0, 7, 0, 1];
     let other = [0x0A, 0, 0, 0, 0, 6, 0, 1];
     let none = legs::nobody();
-    let j = comes_in(g, none, START_OF_7, 8, event);
-    let j = comes_in(g, j, MIDDLE_OF_7, 8, [1, 2, 3, 4, 5, 6, 7, 8]);
-    let j = comes_in(g, j, START_OF_6, 8, other);
-    let j = comes_in(g, j, MIDDLE_OF_7, 8, [9, 10, 11, 12, 13, 14, 15, 16]);
-    let j = comes_in(g, j, LAST_OF_7, 4, [17, 18, 19, 20, 0xEE, 0xEE, 0xEE, 0xEE]);
-    say(b"Board 6 ends its own: nobody asked for its event\n");
-    comes_in(g, j, LAST_OF_6, 1, [0xAB, 0, 0, 0, 0, 0, 0, 0]);
+    let j = comes_in(rt, g, none, START_OF_7, 8, event)?;
+    let j = comes_in(rt, g, j, MIDDLE_OF_7, 8, [1, 2, 3, 4, 5, 6, 7, 8])?;
+    let j = comes_in(rt, g, j, START_OF_6, 8, other)?;
+    let j = comes_in(rt, g, j, MIDDLE_OF_7, 8, [9, 10, 11, 12, 13, 14, 15, 16])?;
+    let j = comes_in(rt, g, j, LAST_OF_7, 4, [17, 18, 19, 20, 0xEE, 0xEE, 0xEE, 0xEE])?;
+    say(rt, b"Board 6 ends its own: nobody asked for its event\n")?;
+    comes_in(rt, g, j, LAST_OF_6, 1, [0xAB, 0, 0, 0, 0, 0, 0, 0])?;
+    Ok(())
 }
 
 fn announcements() -> Gateway {
@@ -58,17 +71,24 @@ fn announced(g: Gateway, leg: u8, board: u64, event: u64) -> Gateway {
 }
 
 // A frame comes in on leg 0; what is handed out goes to the box.
-fn comes_in(g: Gateway, j: Joining, header: u32, length: u8, bytes: [u8; 8]) -> Joining {
-    let r = frames::joined(0, j, header, length, bytes);
+fn comes_in(
+    rt: &impl Print,
+    g: Gateway,
+    j: Joining,
+    header: u32,
+    length: u8,
+    bytes: [u8; 8],
+) -> io::Result<Joining> {
+    let r = frames::joined(rt, 0, j, header, length, bytes)?;
     let next = r.state;
-    say(b"  refusal ");
-    say_count(r.refusal as u64);
-    say(b", unfinished ");
-    say_count(next.count as u64);
-    say(b"\n");
+    say(rt, b"  refusal ")?;
+    say_count(rt, r.refusal as u64)?;
+    say(rt, b", unfinished ")?;
+    say_count(rt, next.count as u64)?;
+    say(rt, b"\n")?;
     if r.mti != 0 {
         let handed = r.message;
-        frames::passed_on(g, r.mti, handed);
+        frames::passed_on(rt, g, r.mti, handed)?;
     }
-    next
+    Ok(next)
 }

@@ -1,26 +1,25 @@
 // What is printed.
-use libc::{STDERR_FILENO, STDOUT_FILENO};
+use std::io;
 
-pub(crate) fn say(t: &[u8]) {
-    told(io::write_all(STDOUT_FILENO, t));
+pub(crate) fn say(rt: &impl Print, t: &[u8]) -> io::Result<()> {
+    rt.write_all(t)
 }
 
-pub(crate) fn say_count(n: u64) {
-    told(io::print_decimal(STDOUT_FILENO, n));
+pub(crate) fn say_count(rt: &impl Print, n: u64) -> io::Result<()> {
+    print!(rt; "{n}")
 }
 
 // Bytes in upper-case hexadecimal.
-pub(crate) fn say_bytes(bytes: &[u8]) {
-    let mut i = 0;
-    while i < bytes.len() {
-        say_byte(bytes[i]);
-        i += 1;
+pub(crate) fn say_bytes(rt: &impl Print, bytes: &[u8]) -> io::Result<()> {
+    for b in bytes {
+        say_byte(rt, *b)?;
     }
+    Ok(())
 }
 
-fn say_byte(b: u8) {
+fn say_byte(rt: &impl Print, b: u8) -> io::Result<()> {
     let pair = [digit(b / 16), digit(b % 16)];
-    say(&pair);
+    say(rt, &pair)
 }
 
 fn digit(d: u8) -> u8 {
@@ -28,13 +27,4 @@ fn digit(d: u8) -> u8 {
         return 48 + d;
     }
     55 + d % 16
-}
-
-// What could not be written is told once: with both outputs closed nothing follows the gap.
-fn told(written: bool) {
-    if !written {
-        io::write_all(STDERR_FILENO, b"can_cases: the output is not whole\n");
-        libc::close(STDOUT_FILENO);
-        libc::close(STDERR_FILENO);
-    }
 }

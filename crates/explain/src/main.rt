@@ -1,23 +1,21 @@
 // A trial file on standard input, on standard output why each report was sent to a leg or held back; "bad file" for any other input.
 #![tactic(auto)]
 
-use libc::{STDERR_FILENO, STDIN_FILENO, STDOUT_FILENO};
-
 // One byte more than a file may have, so that a longer one is seen.
 const MOST: usize = 65537;
 
 const PART: usize = 65536;
 
-// The text in parts, up to the first that does not fill the buffer: together they are the whole text (parts_whole).
-fn main() {
+// The text in parts, up to the first that does not fill the buffer: together they are the whole text (parts-whole).
+fn main(rt: HostRuntime) {
     let mut file = [0u8; MOST];
-    let length = io::read_full(STDIN_FILENO, &mut file);
-    let mut text = io::large_buffer();
+    let length = streams::read_full(&mut rt.stdin(), &mut file);
+    let mut text = [0u8; PART];
     let mut skip = 0;
     loop {
         let end = explanation::part(&file[0..length], skip, &mut text);
-        if !io::write_all(STDOUT_FILENO, &text[0..end]) {
-            io::write_all(STDERR_FILENO, b"explain: the output is not whole\n");
+        if rt.write_all(&text[0..end]).is_err() {
+            let _ = eprintln!(rt; "explain: the output is not whole");
             return;
         }
         if end < PART {

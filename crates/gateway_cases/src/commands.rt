@@ -3,6 +3,7 @@ use crate::reading::Line;
 use crate::tables::byte;
 use crate::{laid_index, lent, reading, report, tables, why};
 use gateway::{Answer, Gateway};
+use std::io;
 
 // Each by the first four letters of its name, 16 for each number it has, and 1 for a message.
 const START: u64 = 0x73_7461_7220;
@@ -25,25 +26,25 @@ const WHY: u64 = 0x7768_7921;
 
 const WHY_LENT: u64 = 0x7768_7981;
 
-pub(crate) fn obey(g: Gateway, l: Line, number: usize) -> Gateway {
+pub(crate) fn obey(rt: &impl Print, g: Gateway, l: Line, number: usize) -> io::Result<Gateway> {
     let numbers = l.numbers;
     let bytes = l.bytes;
     let length = reading::length(l);
     let command = reading::command(l);
     match command {
-        START => report::started(gateway::start(byte(numbers[1]), numbers[2])),
-        BOX => tables::laid_out(numbers),
-        LINES => tables::filled(g, numbers),
-        ORDER => laid_index::with_order(g, numbers),
-        SETS => laid_index::with_set(g, numbers),
-        AT => report::told(g, received(g, byte(numbers[1]), 1, bytes, length)),
-        REPEAT => report::told(g, received(g, byte(numbers[2]), numbers[1], bytes, length)),
-        LENT => report::told(g, lent::received(g, numbers, bytes, length)),
-        WHY => why::asked(g, why::whole(numbers[1], numbers[2]), bytes, length),
-        WHY_LENT => why::asked(g, numbers, bytes, length),
+        START => report::started(rt, gateway::start(byte(numbers[1]), numbers[2])),
+        BOX => Ok(tables::laid_out(numbers)),
+        LINES => Ok(tables::filled(g, numbers)),
+        ORDER => Ok(laid_index::with_order(g, numbers)),
+        SETS => Ok(laid_index::with_set(g, numbers)),
+        AT => report::told(rt, g, received(g, byte(numbers[1]), 1, bytes, length)),
+        REPEAT => report::told(rt, g, received(g, byte(numbers[2]), numbers[1], bytes, length)),
+        LENT => report::told(rt, g, lent::received(g, numbers, bytes, length)),
+        WHY => why::asked(rt, g, why::whole(numbers[1], numbers[2]), bytes, length),
+        WHY_LENT => why::asked(rt, g, numbers, bytes, length),
         _ => {
-            report::not_read(number);
-            g
+            report::not_read(rt, number)?;
+            Ok(g)
         }
     }
 }
@@ -61,7 +62,7 @@ fn received(g: Gateway, port: u8, times: u64, bytes: [u8; 512], length: usize) -
     while i < times {
         i += 1;
         a = received_once(a.gateway, port, message, length);
-        message[last] = std::num::wrapping_add_u8(message[last], 1);
+        message[last] = message[last].wrapping_add(1);
     }
     a
 }

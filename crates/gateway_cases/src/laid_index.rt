@@ -98,8 +98,8 @@ pub(crate) fn order_total(g: Gateway, places: usize) -> u64 {
         if places <= i {
             return all;
         }
-        sum = std::num::wrapping_add_u64(sum, g.order[i] as u64);
-        all = std::num::wrapping_add_u64(all, sum);
+        sum = sum.wrapping_add(g.order[i] as u64);
+        all = all.wrapping_add(sum);
         i += 1;
     }
     all
@@ -111,8 +111,8 @@ pub(crate) fn sets_total(g: Gateway) -> u64 {
     let mut all: u64 = 0;
     let mut i = 0;
     while i < 9 {
-        sum = std::num::wrapping_add_u64(sum, g.sets[i]);
-        all = std::num::wrapping_add_u64(all, sum);
+        sum = sum.wrapping_add(g.sets[i]);
+        all = all.wrapping_add(sum);
         i += 1;
     }
     all

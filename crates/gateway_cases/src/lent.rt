@@ -3,7 +3,7 @@ use crate::tables::byte;
 use gateway::{Answer, Gateway, Head};
 
 // The answer, and the lists of the lines as they were left.
-#[derive(Drop)]
+#[derive(Clone, Copy)]
 struct Lent {
     refusal: u8,
     sent: u8,

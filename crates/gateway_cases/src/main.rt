@@ -10,17 +10,17 @@ mod tables;
 mod why;
 
 use gateway::Gateway;
-use libc::STDIN_FILENO;
+use std::io;
 
 const NEW_LINE: u8 = 10;
 
-fn main() {
-    let mut file = io::large_buffer();
-    let length = io::read_full(STDIN_FILENO, &mut file);
-    each_line(&file[0..length]);
+fn main(rt: HostRuntime) -> io::Result<()> {
+    let mut file = [0u8; 65536];
+    let length = streams::read_full(&mut rt.stdin(), &mut file);
+    each_line(&rt, &file[0..length])
 }
 
-fn each_line(file: &[u8]) {
+fn each_line(rt: &impl Print, file: &[u8]) -> io::Result<()> {
     let mut g = tables::laid_out([0; 16]);
     let mut line = 0;
     let mut start = 0;
@@ -32,32 +32,33 @@ fn each_line(file: &[u8]) {
             continue;
         }
         line += 1;
-        g = step(g, &file[start..at], line);
+        g = step(rt, g, &file[start..at], line)?;
         start = i;
     }
+    Ok(())
 }
 
 // Titles are printed as they are, comments are not.
-fn step(g: Gateway, line: &[u8], number: usize) -> Gateway {
+fn step(rt: &impl Print, g: Gateway, line: &[u8], number: usize) -> io::Result<Gateway> {
     if line.len() == 0 {
-        return g;
+        return Ok(g);
     }
     let first = line[0];
     if first == b'#' {
-        return g;
+        return Ok(g);
     }
-    report::echo(line);
+    report::echo(rt, line)?;
     if first == b'=' {
-        return g;
+        return Ok(g);
     }
-    run(g, line, number)
+    run(rt, g, line, number)
 }
 
-fn run(g: Gateway, line: &[u8], number: usize) -> Gateway {
+fn run(rt: &impl Print, g: Gateway, line: &[u8], number: usize) -> io::Result<Gateway> {
     let l = reading::read_line(line, 0);
     if !reading::is_read(l) {
-        report::not_read(number);
-        return g;
+        report::not_read(rt, number)?;
+        return Ok(g);
     }
-    commands::obey(g, l, number)
+    commands::obey(rt, g, l, number)
 }

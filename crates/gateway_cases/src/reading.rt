@@ -1,7 +1,7 @@
 // A line of the case file: a command, its numbers in hexadecimal, and the bytes of a message behind a colon.
 
 // What has been read of a line. Number 0 is the first four letters of the command, and word the number that is being read.
-#[derive(Drop)]
+#[derive(Clone, Copy)]
 pub(crate) struct Line {
     pub(crate) numbers: [u64; 16],
     pub(crate) bytes: [u8; 512],

@@ -3,87 +3,88 @@ use crate::laid_index::{order_total, sets_total};
 use crate::tables::total;
 use gateway::{Answer, Gateway, Head, WhyAnswer};
 use gateway_rules::{Holder, Reason};
-use libc::STDOUT_FILENO;
+use std::io;
 
 // What a message came to, and the next state, which comes back.
-pub(crate) fn told(before: Gateway, a: Answer) -> Gateway {
+pub(crate) fn told(rt: &impl Print, before: Gateway, a: Answer) -> io::Result<Gateway> {
     let g = a.gateway;
     let head = g.head;
-    answer(a.refusal, a.sent, head.ports);
-    kept(a.refusal, of_everything(before), of_everything(g));
-    state(head, total(g, head.count));
-    lines(g);
-    order(g);
-    sets(g);
-    g
+    answer(rt, a.refusal, a.sent, head.ports)?;
+    kept(rt, a.refusal, of_everything(before), of_everything(g))?;
+    state(rt, head, total(g, head.count))?;
+    lines(rt, g)?;
+    order(rt, g)?;
+    sets(rt, g)?;
+    Ok(g)
 }
 
 // The same of a start.
-pub(crate) fn started(a: Answer) -> Gateway {
+pub(crate) fn started(rt: &impl Print, a: Answer) -> io::Result<Gateway> {
     let g = a.gateway;
     let head = g.head;
-    answer(a.refusal, a.sent, head.ports);
-    state(head, 0);
-    g
+    answer(rt, a.refusal, a.sent, head.ports)?;
+    state(rt, head, 0)?;
+    Ok(g)
 }
 
-fn answer(refusal: u8, ports_sent: u8, ports: u8) {
-    say(b"  ");
+fn answer(rt: &impl Print, refusal: u8, ports_sent: u8, ports: u8) -> io::Result<()> {
+    say(rt, b"  ")?;
     if refusal == 0 {
-        sent(ports_sent, ports);
+        sent(rt, ports_sent, ports)
     } else {
-        say(b"refused ");
-        io::print_decimal(STDOUT_FILENO, refusal as u64);
+        say(rt, b"refused ")?;
+        decimal(rt, refusal as u64)
     }
 }
 
 // A digit a port.
-fn sent(set: u8, ports: u8) {
+fn sent(rt: &impl Print, set: u8, ports: u8) -> io::Result<()> {
     let mut rest = set;
     let mut p = 0;
     while p < ports {
-        io::print_decimal(STDOUT_FILENO, (rest % 2) as u64);
+        decimal(rt, (rest % 2) as u64)?;
         rest /= 2;
         p += 1;
     }
+    Ok(())
 }
 
 // Whether a refused message left the lists as they were, past the count too.
-fn kept(refusal: u8, old_total: u64, new_total: u64) {
+fn kept(rt: &impl Print, refusal: u8, old_total: u64, new_total: u64) -> io::Result<()> {
     if refusal == 0 {
-        return;
+        return Ok(());
     }
     if old_total == new_total {
-        say(b", kept");
+        say(rt, b", kept")
     } else {
-        say(b", CHANGED");
+        say(rt, b", CHANGED")
     }
 }
 
 // As the command that lays it out, and of a long table the total.
-fn state(head: Head, of_all: u64) {
+fn state(rt: &impl Print, head: Head, of_all: u64) -> io::Result<()> {
     let automatic = head.automatic;
-    say(b"; box");
-    hex(head.ports as u64, 1);
-    hex(head.marks as u64, 1);
-    hex(automatic.start, 16);
-    hex(automatic.k as u64, 1);
-    hex(head.count as u64, 1);
+    say(rt, b"; box")?;
+    hex(rt, head.ports as u64, 1)?;
+    hex(rt, head.marks as u64, 1)?;
+    hex(rt, automatic.start, 16)?;
+    hex(rt, automatic.k as u64, 1)?;
+    hex(rt, head.count as u64, 1)?;
     if 8 < head.count {
-        say(b"; total");
-        hex(of_all, 16);
+        say(rt, b"; total")?;
+        hex(rt, of_all, 16)?;
     }
-    say(b"\n");
+    say(rt, b"\n")
 }
 
 // Of a long table the first four and the last four.
-fn lines(g: Gateway) {
+fn lines(rt: &impl Print, g: Gateway) -> io::Result<()> {
     let head = g.head;
     let count = head.count;
     let mut i = 0;
     while i < 256 {
         if count <= i {
-            return;
+            return Ok(());
         }
         let at = i;
         i += 1;
@@ -92,19 +93,20 @@ fn lines(g: Gateway) {
                 continue;
             }
         }
-        line(at, g.ports[at], g.nodes[at], g.starts[at], g.sizes[at]);
+        line(rt, at, g.ports[at], g.nodes[at], g.starts[at], g.sizes[at])?;
     }
+    Ok(())
 }
 
 // The order up to the count, of a long table the first four, the last four and their total.
-fn order(g: Gateway) {
+fn order(rt: &impl Print, g: Gateway) -> io::Result<()> {
     let head = g.head;
     let count = at_most(head.count, 256);
-    say(b"    order");
+    say(rt, b"    order")?;
     let mut i = 0;
     while i < 256 {
         if count <= i {
-            return;
+            return Ok(());
         }
         let at = i;
         i += 1;
@@ -113,30 +115,31 @@ fn order(g: Gateway) {
                 continue;
             }
         }
-        hex(g.order[at] as u64, 1);
-        after_last(g, i, count);
+        hex(rt, g.order[at] as u64, 1)?;
+        after_last(rt, g, i, count)?;
     }
+    Ok(())
 }
 
-fn after_last(g: Gateway, printed: usize, count: usize) {
+fn after_last(rt: &impl Print, g: Gateway, printed: usize, count: usize) -> io::Result<()> {
     if count <= 8 {
-        return;
+        return Ok(());
     }
     if printed < count {
-        return;
+        return Ok(());
     }
-    say(b" total");
-    hex(order_total(g, count), 16);
+    say(rt, b" total")?;
+    hex(rt, order_total(g, count), 16)
 }
 
-fn sets(g: Gateway) {
-    say(b"; sets");
+fn sets(rt: &impl Print, g: Gateway) -> io::Result<()> {
+    say(rt, b"; sets")?;
     let mut i = 0;
     while i < 9 {
-        hex(g.sets[i], 1);
+        hex(rt, g.sets[i], 1)?;
         i += 1;
     }
-    say(b"\n");
+    say(rt, b"\n")
 }
 
 fn at_most(n: usize, most: usize) -> usize {
@@ -145,66 +148,70 @@ fn at_most(n: usize, most: usize) -> usize {
 
 // What a refusal keeps: every place of the lists, those of the index too.
 fn of_everything(g: Gateway) -> u64 {
-    let index = std::num::wrapping_add_u64(order_total(g, 256), sets_total(g));
-    std::num::wrapping_add_u64(total(g, 256), index)
+    let index = order_total(g, 256).wrapping_add(sets_total(g));
+    total(g, 256).wrapping_add(index)
 }
 
-fn line(place: usize, port: u8, node: u64, start: u64, k: u8) {
-    say(b"   ");
-    hex(place as u64, 1);
-    say(b":");
-    hex(port as u64, 1);
-    hex(node, 12);
-    hex(start, 16);
-    hex(k as u64, 1);
-    say(b"\n");
+fn line(rt: &impl Print, place: usize, port: u8, node: u64, start: u64, k: u8) -> io::Result<()> {
+    say(rt, b"   ")?;
+    hex(rt, place as u64, 1)?;
+    say(rt, b":")?;
+    hex(rt, port as u64, 1)?;
+    hex(rt, node, 12)?;
+    hex(rt, start, 16)?;
+    hex(rt, k as u64, 1)?;
+    say(rt, b"\n")
 }
 
 // The reason by its number, and the line that it names.
-pub(crate) fn reason(a: WhyAnswer) {
+pub(crate) fn reason(rt: &impl Print, a: WhyAnswer) -> io::Result<()> {
     match a {
-        WhyAnswer::Because(r) => because(r),
-        WhyAnswer::Refused(refusal) => answer(refusal, 0, 0),
+        WhyAnswer::Because(r) => because(rt, r)?,
+        WhyAnswer::Refused(refusal) => answer(rt, refusal, 0, 0)?,
     }
-    say(b"\n");
+    say(rt, b"\n")
 }
 
-fn because(r: Reason) {
-    say(b"  reason ");
+fn because(rt: &impl Print, r: Reason) -> io::Result<()> {
+    say(rt, b"  reason ")?;
     match r {
-        Reason::ArrivalPort => say(b"1"),
-        Reason::AutomaticEvent => say(b"2"),
-        Reason::OpenPort => say(b"3"),
-        Reason::HeldBy(l) => held_by(l),
-        Reason::NothingHolds => say(b"5"),
+        Reason::ArrivalPort => say(rt, b"1"),
+        Reason::AutomaticEvent => say(rt, b"2"),
+        Reason::OpenPort => say(rt, b"3"),
+        Reason::HeldBy(l) => held_by(rt, l),
+        Reason::NothingHolds => say(rt, b"5"),
     }
 }
 
-fn held_by(l: Holder) {
+fn held_by(rt: &impl Print, l: Holder) -> io::Result<()> {
     let block = l.block;
-    say(b"4; line");
-    hex(l.place as u64, 1);
-    hex(l.node, 12);
-    hex(block.start, 16);
-    hex(block.k as u64, 1);
+    say(rt, b"4; line")?;
+    hex(rt, l.place as u64, 1)?;
+    hex(rt, l.node, 12)?;
+    hex(rt, block.start, 16)?;
+    hex(rt, block.k as u64, 1)
 }
 
-pub(crate) fn not_read(number: usize) {
-    say(b"  line ");
-    io::print_decimal(STDOUT_FILENO, number as u64);
-    say(b": cannot be read\n");
+pub(crate) fn not_read(rt: &impl Print, number: usize) -> io::Result<()> {
+    say(rt, b"  line ")?;
+    decimal(rt, number as u64)?;
+    say(rt, b": cannot be read\n")
 }
 
-fn hex(n: u64, width: usize) {
-    say(b" ");
-    io::print_hex(STDOUT_FILENO, n, width);
+fn hex(rt: &impl Print, n: u64, width: usize) -> io::Result<()> {
+    say(rt, b" ")?;
+    print!(rt; "{n:0width$x}")
 }
 
-pub(crate) fn echo(line: &[u8]) {
-    say(line);
-    say(b"\n");
+fn decimal(rt: &impl Print, n: u64) -> io::Result<()> {
+    print!(rt; "{n}")
 }
 
-fn say(t: &[u8]) {
-    io::write_all(STDOUT_FILENO, t);
+pub(crate) fn echo(rt: &impl Print, line: &[u8]) -> io::Result<()> {
+    say(rt, line)?;
+    say(rt, b"\n")
+}
+
+fn say(rt: &impl Print, t: &[u8]) -> io::Result<()> {
+    rt.write_all(t)
 }

@@ -39,7 +39,7 @@ pub(crate) fn filled(g: Gateway, numbers: [u64; 16]) -> Gateway {
         next.nodes[at] = numbers[5];
         next.starts[at] = start;
         next.sizes[at] = byte(numbers[7]);
-        start = std::num::wrapping_add_u64(start, numbers[8]);
+        start = start.wrapping_add(numbers[8]);
     }
     laid_index::indexed(next)
 }
@@ -67,16 +67,16 @@ pub(crate) fn total(g: Gateway, places: usize) -> u64 {
             return all;
         }
         sum = with_line(sum, g.nodes[i], g.starts[i], g.ports[i], g.sizes[i]);
-        all = std::num::wrapping_add_u64(all, sum);
+        all = all.wrapping_add(sum);
         i += 1;
     }
     all
 }
 
 fn with_line(sum: u64, node: u64, start: u64, port: u8, k: u8) -> u64 {
-    let numbers = std::num::wrapping_add_u64(node, start);
+    let numbers = node.wrapping_add(start);
     let small = port as u64 + k as u64;
-    std::num::wrapping_add_u64(sum, std::num::wrapping_add_u64(numbers, small))
+    sum.wrapping_add(numbers.wrapping_add(small))
 }
 
 pub(crate) fn byte(n: u64) -> u8 {

@@ -2,6 +2,7 @@
 use crate::tables::byte;
 use crate::{lent, report};
 use gateway::{Gateway, Head, WhyAnswer};
+use std::io;
 
 // The numbers for lists that are lent whole.
 pub(crate) fn whole(port: u64, asked: u64) -> [u64; 16] {
@@ -13,7 +14,13 @@ pub(crate) fn whole(port: u64, asked: u64) -> [u64; 16] {
 }
 
 // The numbers: how many places of each list are lent, the arrival port and the asked one. The state stays as it is.
-pub(crate) fn asked(g: Gateway, numbers: [u64; 16], bytes: [u8; 512], length: usize) -> Gateway {
+pub(crate) fn asked(
+    rt: &impl Print,
+    g: Gateway,
+    numbers: [u64; 16],
+    bytes: [u8; 512],
+    length: usize,
+) -> io::Result<Gateway> {
     let head = g.head;
     let nodes = g.nodes;
     let starts = g.starts;
@@ -25,7 +32,7 @@ pub(crate) fn asked(g: Gateway, numbers: [u64; 16], bytes: [u8; 512], length: us
     let message = &bytes[0..end];
     let of_order = (numbers[5] % 257) as usize;
     let of_sets = (numbers[6] % 10) as usize;
-    report::reason(lend(
+    let answer = lend(
         head,
         nodes,
         lent::longer(starts),
@@ -35,8 +42,9 @@ pub(crate) fn asked(g: Gateway, numbers: [u64; 16], bytes: [u8; 512], length: us
         &sets[0..of_sets],
         numbers,
         message,
-    ));
-    g
+    );
+    report::reason(rt, answer)?;
+    Ok(g)
 }
 
 fn lend(

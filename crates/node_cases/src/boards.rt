@@ -12,7 +12,7 @@ pub(crate) struct Lengths {
 }
 
 // The record and the lists, which have a place more than a board may have slots.
-#[derive(Drop)]
+#[derive(Clone, Copy)]
 pub(crate) struct Bench {
     pub(crate) node: Node,
     pub(crate) lengths: Lengths,
@@ -23,7 +23,7 @@ pub(crate) struct Bench {
 }
 
 // The board of the next call, and the one that was put by.
-#[derive(Drop)]
+#[derive(Clone, Copy)]
 pub(crate) struct Benches {
     pub(crate) now: Bench,
     pub(crate) kept: Bench,
@@ -91,7 +91,7 @@ pub(crate) fn with_slots(b: Bench, numbers: [u64; 16]) -> Bench {
         next.events[at] = event;
         next.statuses[at] = byte(numbers[6]);
         next.marks[at] = byte(numbers[7]);
-        event = std::num::wrapping_add_u64(event, numbers[8]);
+        event = event.wrapping_add(numbers[8]);
     }
     next
 }

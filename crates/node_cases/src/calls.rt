@@ -3,9 +3,17 @@ use crate::boards::{Bench, Lengths};
 use crate::report::told;
 use node::Answer;
 use node_rules::{Call, Node};
+use std::io;
 
 // A call with so many bytes of a message. The board comes back as the call left it.
-pub(crate) fn lent(b: Bench, call: Call, bytes: [u8; 512], length: u64, room: u64) -> Bench {
+pub(crate) fn lent(
+    rt: &impl Print,
+    b: Bench,
+    call: Call,
+    bytes: [u8; 512],
+    length: u64,
+    room: u64,
+) -> io::Result<Bench> {
     let node = b.node;
     let lengths = b.lengths;
     let roles = b.roles;
@@ -14,6 +22,7 @@ pub(crate) fn lent(b: Bench, call: Call, bytes: [u8; 512], length: u64, room: u6
     let marks = b.marks;
     let end = (length % 513) as usize;
     lend(
+        rt,
         call,
         &bytes[0..end],
         room,
@@ -27,6 +36,7 @@ pub(crate) fn lent(b: Bench, call: Call, bytes: [u8; 512], length: u64, room: u6
 }
 
 fn lend(
+    rt: &impl Print,
     call: Call,
     bytes: &[u8],
     room: u64,
@@ -36,7 +46,7 @@ fn lend(
     events: [u64; 65],
     old_statuses: [u8; 65],
     old_marks: [u8; 65],
-) -> Bench {
+) -> io::Result<Bench> {
     let mut statuses = old_statuses;
     let mut marks = old_marks;
     let mut out = [0xEEu8; 1040];
@@ -46,6 +56,7 @@ fn lend(
     let m = (lengths.marks % 66) as usize;
     let o = (room % 1041) as usize;
     let node = step(
+        rt,
         call,
         node,
         bytes,
@@ -54,18 +65,19 @@ fn lend(
         &mut statuses[0..s],
         &mut marks[0..m],
         &mut out[0..o],
-    );
-    Bench {
+    )?;
+    Ok(Bench {
         node,
         lengths,
         roles,
         events,
         statuses,
         marks,
-    }
+    })
 }
 
 fn step(
+    rt: &impl Print,
     call: Call,
     node: Node,
     bytes: &[u8],
@@ -74,10 +86,10 @@ fn step(
     statuses: &mut [u8],
     marks: &mut [u8],
     out: &mut [u8],
-) -> Node {
+) -> io::Result<Node> {
     let a = made(call, node, bytes, roles, events, statuses, marks, out);
-    told(a, out, marks, statuses);
-    a.node
+    told(rt, a, out, marks, statuses)?;
+    Ok(a.node)
 }
 
 // By the five public calls, so that each of them is tried.

@@ -4,6 +4,7 @@ use crate::calls::lent;
 use crate::reading::Line;
 use crate::{boards, reading, report};
 use node_rules::Call;
+use std::io;
 
 // Each by the first four letters of its name, 16 for each number it has, and 1 for a message.
 const KEEP: u64 = 0x6B_6565_7000;
@@ -28,23 +29,29 @@ const RECEIVE: u64 = 0x72_6563_6511;
 
 const LONG: u64 = 0x6C_6F6E_6721;
 
-pub(crate) fn obey(b: Benches, l: Line, number: usize) -> Benches {
+pub(crate) fn obey(rt: &impl Print, b: Benches, l: Line, number: usize) -> io::Result<Benches> {
     let now = b.now;
     let kept = b.kept;
     let command = reading::command(l);
     if command == KEEP {
-        return Benches { now, kept: now };
+        return Ok(Benches { now, kept: now });
     }
     if command == AGAIN {
-        return Benches { now: kept, kept };
+        return Ok(Benches { now: kept, kept });
     }
-    Benches {
-        now: obeyed(now, command, l, number),
+    Ok(Benches {
+        now: obeyed(rt, now, command, l, number)?,
         kept,
-    }
+    })
 }
 
-fn obeyed(b: Bench, command: u64, l: Line, number: usize) -> Bench {
+fn obeyed(
+    rt: &impl Print,
+    b: Bench,
+    command: u64,
+    l: Line,
+    number: usize,
+) -> io::Result<Bench> {
     let numbers = l.numbers;
     let bytes = l.bytes;
     let length = reading::length(l);
@@ -52,15 +59,16 @@ fn obeyed(b: Bench, command: u64, l: Line, number: usize) -> Bench {
     let second = numbers[2];
     let slot = first as usize;
     match command {
-        RECORD => boards::with_record(b, numbers),
-        SLOTS => boards::with_slots(b, numbers),
-        LENGTHS => boards::with_lengths(b, numbers),
-        INITIALISE => lent(b, Call::Initialise, bytes, 0, first),
-        ANNOUNCE => lent(b, Call::Announce(slot), bytes, 0, second),
-        PRODUCE => lent(b, Call::Produce(slot), bytes, 0, second),
-        SET => lent(b, Call::SetStatus(slot, byte(second)), bytes, 0, 0),
-        RECEIVE => lent(b, Call::Receive, bytes, length as u64, first),
+        RECORD => Ok(boards::with_record(b, numbers)),
+        SLOTS => Ok(boards::with_slots(b, numbers)),
+        LENGTHS => Ok(boards::with_lengths(b, numbers)),
+        INITIALISE => lent(rt, b, Call::Initialise, bytes, 0, first),
+        ANNOUNCE => lent(rt, b, Call::Announce(slot), bytes, 0, second),
+        PRODUCE => lent(rt, b, Call::Produce(slot), bytes, 0, second),
+        SET => lent(rt, b, Call::SetStatus(slot, byte(second)), bytes, 0, 0),
+        RECEIVE => lent(rt, b, Call::Receive, bytes, length as u64, first),
         LONG => lent(
+            rt,
             b,
             Call::Receive,
             bytes,
@@ -68,8 +76,8 @@ fn obeyed(b: Bench, command: u64, l: Line, number: usize) -> Bench {
             first,
         ),
         _ => {
-            report::not_read(number);
-            b
+            report::not_read(rt, number)?;
+            Ok(b)
         }
     }
 }

@@ -8,17 +8,17 @@ mod reading;
 mod report;
 
 use boards::Benches;
-use libc::STDIN_FILENO;
+use std::io;
 
 const NEW_LINE: u8 = 10;
 
-fn main() {
-    let mut file = io::large_buffer();
-    let length = io::read_full(STDIN_FILENO, &mut file);
-    each_line(&file[0..length]);
+fn main(rt: HostRuntime) -> io::Result<()> {
+    let mut file = [0u8; 65536];
+    let length = streams::read_full(&mut rt.stdin(), &mut file);
+    each_line(&rt, &file[0..length])
 }
 
-fn each_line(file: &[u8]) {
+fn each_line(rt: &impl Print, file: &[u8]) -> io::Result<()> {
     let bare = boards::bare();
     let mut b = Benches {
         now: bare,
@@ -34,28 +34,29 @@ fn each_line(file: &[u8]) {
             continue;
         }
         line += 1;
-        b = step(b, &file[start..at], line);
+        b = step(rt, b, &file[start..at], line)?;
         start = i;
     }
+    Ok(())
 }
 
 // Titles are printed as they are, comments are not.
-fn step(b: Benches, line: &[u8], number: usize) -> Benches {
+fn step(rt: &impl Print, b: Benches, line: &[u8], number: usize) -> io::Result<Benches> {
     if line.len() == 0 {
-        return b;
+        return Ok(b);
     }
     if line[0] == b'#' {
-        return b;
+        return Ok(b);
     }
-    report::say(line);
-    report::say(b"\n");
+    report::say(rt, line)?;
+    report::say(rt, b"\n")?;
     if line[0] == b'=' {
-        return b;
+        return Ok(b);
     }
     let l = reading::read_line(line, 7);
     if !reading::is_read(l) {
-        report::not_read(number);
-        return b;
+        report::not_read(rt, number)?;
+        return Ok(b);
     }
-    commands::obey(b, l, number)
+    commands::obey(rt, b, l, number)
 }

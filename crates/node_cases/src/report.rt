@@ -1,98 +1,103 @@
 // What is printed of a call.
-use libc::STDOUT_FILENO;
 use node::Answer;
 use node_rules::Node;
+use std::io;
 
 const UNTOUCHED: u8 = 0xEE;
 
 // The answer, the board as it was left, and what was written.
-pub(crate) fn told(a: Answer, out: &[u8], marks: &[u8], statuses: &[u8]) {
+pub(crate) fn told(
+    rt: &impl Print,
+    a: Answer,
+    out: &[u8],
+    marks: &[u8],
+    statuses: &[u8],
+) -> io::Result<()> {
     if a.refusal == 0 {
-        say(b"  accepted");
+        say(rt, b"  accepted")?;
     } else {
-        say(b"  refused ");
-        io::print_decimal(STDOUT_FILENO, a.refusal as u64);
+        say(rt, b"  refused ")?;
+        decimal(rt, a.refusal as u64)?;
     }
-    answer(a.messages, a.bytes, a.matches);
-    record(a.node);
-    list(b"\n  marks ", marks);
-    list(b"; statuses ", statuses);
-    written(out, a.bytes);
+    answer(rt, a.messages, a.bytes, a.matches)?;
+    record(rt, a.node)?;
+    list(rt, b"\n  marks ", marks)?;
+    list(rt, b"; statuses ", statuses)?;
+    written(rt, out, a.bytes)
 }
 
-fn answer(messages: usize, bytes: usize, matches: u64) {
-    say(b"; messages");
-    hex(messages as u64, 1);
-    say(b"; bytes");
-    hex(bytes as u64, 1);
-    say(b"; matches");
-    hex(matches, 1);
+fn answer(rt: &impl Print, messages: usize, bytes: usize, matches: u64) -> io::Result<()> {
+    say(rt, b"; messages")?;
+    hex(rt, messages as u64, 1)?;
+    say(rt, b"; bytes")?;
+    hex(rt, bytes as u64, 1)?;
+    say(rt, b"; matches")?;
+    hex(rt, matches, 1)
 }
 
 // As the command that lays it out.
-fn record(node: Node) {
+fn record(rt: &impl Print, node: Node) -> io::Result<()> {
     let automatic = node.automatic;
-    say(b"; record");
-    hex(node.id, 12);
-    hex(node.state as u64, 1);
-    hex(automatic.start, 16);
-    hex(automatic.k as u64, 1);
+    say(rt, b"; record")?;
+    hex(rt, node.id, 12)?;
+    hex(rt, node.state as u64, 1)?;
+    hex(rt, automatic.start, 16)?;
+    hex(rt, automatic.k as u64, 1)
 }
 
-fn list(name: &[u8], numbers: &[u8]) {
-    say(name);
-    let mut i = 0;
-    while i < numbers.len() {
-        digits(numbers[i], 1);
-        i += 1;
+fn list(rt: &impl Print, name: &[u8], numbers: &[u8]) -> io::Result<()> {
+    say(rt, name)?;
+    for n in numbers {
+        digits(rt, *n, 1)?;
     }
+    Ok(())
 }
 
 // The bytes written, 16 a line, and whether the rest of the output is as it was.
-fn written(out: &[u8], count: usize) {
+fn written(rt: &impl Print, out: &[u8], count: usize) -> io::Result<()> {
     let mut changed = false;
-    let mut i = 0;
-    while i < out.len() {
-        let at = i;
-        let b = out[at];
-        i += 1;
+    for (at, b) in out.iter().enumerate() {
         if at < count {
-            byte(at, b);
+            byte(rt, at, *b)?;
             continue;
         }
-        if b != UNTOUCHED {
+        if *b != UNTOUCHED {
             changed = true;
         }
     }
     if changed {
-        say(b"\n  rest CHANGED\n");
+        say(rt, b"\n  rest CHANGED\n")
     } else {
-        say(b"\n  rest kept\n");
+        say(rt, b"\n  rest kept\n")
     }
 }
 
-fn byte(place: usize, b: u8) {
+fn byte(rt: &impl Print, place: usize, b: u8) -> io::Result<()> {
     if place % 16 == 0 {
-        say(b"\n  ");
+        say(rt, b"\n  ")?;
     }
-    digits(b, 2);
+    digits(rt, b, 2)
 }
 
-fn digits(n: u8, width: usize) {
-    io::print_hex(STDOUT_FILENO, n as u64, width);
+fn digits(rt: &impl Print, n: u8, width: usize) -> io::Result<()> {
+    print!(rt; "{n:0width$x}")
 }
 
-pub(crate) fn not_read(number: usize) {
-    say(b"  line ");
-    io::print_decimal(STDOUT_FILENO, number as u64);
-    say(b": cannot be read\n");
+pub(crate) fn not_read(rt: &impl Print, number: usize) -> io::Result<()> {
+    say(rt, b"  line ")?;
+    decimal(rt, number as u64)?;
+    say(rt, b": cannot be read\n")
 }
 
-fn hex(n: u64, width: usize) {
-    say(b" ");
-    io::print_hex(STDOUT_FILENO, n, width);
+fn hex(rt: &impl Print, n: u64, width: usize) -> io::Result<()> {
+    say(rt, b" ")?;
+    print!(rt; "{n:0width$x}")
 }
 
-pub(crate) fn say(t: &[u8]) {
-    io::write_all(STDOUT_FILENO, t);
+fn decimal(rt: &impl Print, n: u64) -> io::Result<()> {
+    print!(rt; "{n}")
+}
+
+pub(crate) fn say(rt: &impl Print, t: &[u8]) -> io::Result<()> {
+    rt.write_all(t)
 }

@@ -3,6 +3,7 @@ use crate::{files, own, records};
 use node::Answer;
 use node_rules::Node;
 use slot_records::Slot;
+use std::io;
 
 #[derive(Clone, Copy)]
 pub(crate) struct Board {
@@ -18,7 +19,13 @@ pub(crate) struct Made {
 }
 
 // The call at a place of the file; a restart is made by the node's own record too, and must come to the same.
-pub(crate) fn make(board: Board, file: &[u8], at: usize, out: &mut [u8]) -> Made {
+pub(crate) fn make(
+    rt: &impl Print,
+    board: Board,
+    file: &[u8],
+    at: usize,
+    out: &mut [u8],
+) -> io::Result<Made> {
     let node = board.node;
     let slots = board.slots;
     let count = files::lower(board.count, 100);
@@ -38,20 +45,21 @@ pub(crate) fn make(board: Board, file: &[u8], at: usize, out: &mut [u8]) -> Made
     let next = answer.node;
     if files::byte(file, at) == 1 {
         own::compare(
+            rt,
             node,
             own::lists_of(slots),
             count,
             answer,
             own::lists_of(after),
             &out[0..room],
-        );
+        )?;
     }
-    Made {
+    Ok(Made {
         answer,
         board: Board {
             node: next,
             count,
             slots: after,
         },
-    }
+    })
 }

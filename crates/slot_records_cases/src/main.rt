@@ -9,52 +9,60 @@ mod records;
 ghost use Rattle.std.specs.Prelude.{◌≤◌};
 
 use calls::Board;
-use libc::{STDIN_FILENO, STDOUT_FILENO};
 use node::Answer;
 use own::Lists;
+use std::io;
 use text::Place;
 
 const MOST: usize = 65537;
 
-fn main() {
+fn main(rt: HostRuntime) -> io::Result<()> {
     let mut file = [0u8; MOST];
-    let length = io::read_full(STDIN_FILENO, &mut file);
-    play(&file[0..length]);
+    let length = streams::read_full(&mut rt.stdin(), &mut file);
+    play(&rt, &file[0..length])
 }
 
-fn play(file: &[u8]) {
+fn play(rt: &impl Print, file: &[u8]) -> io::Result<()> {
     let mut board = files::laid_out(file);
     let mut at = files::calls_at(file);
     let mut k = 0;
     while k < 1000 {
         if file.len() <= at {
-            return;
+            return Ok(());
         }
-        board = call(board, file, at, k);
+        board = call(rt, board, file, at, k)?;
         at = files::after(file, at);
         k += 1;
     }
+    Ok(())
 }
 
 // Makes the call at a place of the file, and prints its line.
-fn call(board: Board, file: &[u8], at: usize, k: usize) -> Board {
+fn call(rt: &impl Print, board: Board, file: &[u8], at: usize, k: usize) -> io::Result<Board> {
     let mut out = [0u8; 2048];
-    let made = calls::make(board, file, at, &mut out);
+    let made = calls::make(rt, board, file, at, &mut out)?;
     let answer = made.answer;
     let next = made.board;
     let slots = next.slots;
     let lists = own::lists_of(slots);
-    say_line(k, answer, lists, files::lower(next.count, 100), &out);
-    next
+    say_line(rt, k, answer, lists, files::lower(next.count, 100), &out)?;
+    Ok(next)
 }
 
-fn say_line(k: usize, answer: Answer, lists: Lists, count: usize, out: &[u8])
+fn say_line(
+    rt: &impl Print,
+    k: usize,
+    answer: Answer,
+    lists: Lists,
+    count: usize,
+    out: &[u8],
+) -> io::Result<()>
     requires { count ≤ 100 }
 {
     let written = answer.bytes;
     let node = answer.node;
     if out.len() < written {
-        return;
+        return Ok(());
     }
     let marks = lists.marks;
     let mut line = [0u8; 8192];
@@ -70,6 +78,7 @@ fn say_line(k: usize, answer: Answer, lists: Lists, count: usize, out: &[u8])
     );
     let length = end.at;
     if length <= 8192 {
-        io::write_all(STDOUT_FILENO, &line[0..length]);
+        rt.write_all(&line[0..length])?;
     }
+    Ok(())
 }

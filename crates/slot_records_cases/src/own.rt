@@ -1,10 +1,10 @@
 // A restart by the node's own record beside the same restart by slot records.
 use crate::records::Restarted;
 use crate::{files, records};
-use libc::STDOUT_FILENO;
 use node::Answer;
 use node_rules::Node;
 use slot_records::{Record, Slot};
+use std::io;
 
 #[derive(Clone, Copy)]
 pub(crate) struct Lists {
@@ -35,13 +35,14 @@ pub(crate) fn lists_of(slots: [Slot; 100]) -> Lists {
 
 // Says so where the two do not come to the same.
 pub(crate) fn compare(
+    rt: &impl Print,
     node: Node,
     before: Lists,
     count: usize,
     answer: Answer,
     after: Lists,
     out: &[u8],
-) {
+) -> io::Result<()> {
     let mut statuses = before.statuses;
     let mut marks = before.marks;
     let statuses_after = after.statuses;
@@ -60,23 +61,24 @@ pub(crate) fn compare(
     let next = answer.node;
     let room = files::lower(out.len(), 2048);
     if restarted.refusal != answer.refusal {
-        differs();
+        differs(rt)?;
     }
     if own.state != next.state {
-        differs();
+        differs(rt)?;
     }
     if own.written != answer.bytes {
-        differs();
+        differs(rt)?;
     }
     if !same(&statuses, &statuses_after) {
-        differs();
+        differs(rt)?;
     }
     if !same(&marks, &marks_after) {
-        differs();
+        differs(rt)?;
     }
     if !same(&written[0..room], out) {
-        differs();
+        differs(rt)?;
     }
+    Ok(())
 }
 
 // The restart of the first slots into so much room.
@@ -125,6 +127,6 @@ fn same(a: &[u8], b: &[u8]) -> bool {
     true
 }
 
-fn differs() {
-    io::write_all(STDOUT_FILENO, b"the node's own record differs\n");
+fn differs(rt: &impl Print) -> io::Result<()> {
+    rt.write_all(b"the node's own record differs\n")
 }

@@ -1,19 +1,21 @@
 // Runs the trial files whose names stand on standard input, a name a line, and prints each name and its text.
 #![tactic(auto)]
 
-use libc::{STDIN_FILENO, STDOUT_FILENO};
+use std::io::Read;
+use std::rt::Files;
+use std::{fs, io, str};
 
 const MOST: usize = 65537;
 
 const NEW_LINE: u8 = 10;
 
-fn main() {
-    let mut names = io::large_buffer();
-    let length = io::read_full(STDIN_FILENO, &mut names);
-    each_name(&names[0..length]);
+fn main(rt: HostRuntime) -> io::Result<()> {
+    let mut names = [0u8; 65536];
+    let length = streams::read_full(&mut rt.stdin(), &mut names);
+    each_name(&rt, &names[0..length])
 }
 
-fn each_name(names: &[u8]) {
+fn each_name(rt: &(impl Files + Print), names: &[u8]) -> io::Result<()> {
     let mut start = 0;
     let mut i = 0;
     while i < names.len() {
@@ -22,31 +24,33 @@ fn each_name(names: &[u8]) {
         if names[at] != NEW_LINE {
             continue;
         }
-        named(&names[start..at]);
+        named(rt, &names[start..at])?;
         start = i;
     }
+    Ok(())
 }
 
-fn named(name: &[u8]) {
-    say(name);
-    say(b"\n");
-    let fd = os::open_read(name);
-    if fd < 0 {
-        say(b"no such file\n");
-        return;
+fn named(rt: &(impl Files + Print), name: &[u8]) -> io::Result<()> {
+    say(rt, name)?;
+    say(rt, b"\n")?;
+    // A path is UTF-8 here.
+    let Ok(path) = str::from_utf8(name) else {
+        return say(rt, b"no such file\n");
+    };
+    match fs::open(rt, path) {
+        Ok(mut f) => run(rt, &mut f),
+        Err(_) => say(rt, b"no such file\n"),
     }
-    run(fd);
-    libc::close(fd);
 }
 
-fn run(fd: i32) {
+fn run(rt: &impl Print, reader: &mut impl Read) -> io::Result<()> {
     let mut file = [0u8; MOST];
-    let length = io::read_full(fd, &mut file);
-    let mut text = io::large_buffer();
+    let length = streams::read_full(reader, &mut file);
+    let mut text = [0u8; 65536];
     let end = replay::whole(&file[0..length], &mut text);
-    say(&text[0..end]);
+    say(rt, &text[0..end])
 }
 
-fn say(t: &[u8]) {
-    io::write_all(STDOUT_FILENO, t);
+fn say(rt: &impl Print, t: &[u8]) -> io::Result<()> {
+    rt.write_all(t)
 }

@@ -1,17 +1,15 @@
 // A trial file on standard input; on standard output a line a port, why its last entry is sent there or held back, or only the refusal number.
 #![tactic(auto)]
 
-use libc::{STDERR_FILENO, STDIN_FILENO, STDOUT_FILENO};
-
 // One byte more than a file may have, so that a longer one is seen.
 const MOST: usize = 65537;
 
-fn main() {
+fn main(rt: HostRuntime) {
     let mut file = [0u8; MOST];
-    let length = io::read_full(STDIN_FILENO, &mut file);
+    let length = streams::read_full(&mut rt.stdin(), &mut file);
     let mut text = [0u8; 16];
     let end = reasons::last_entry(&file[0..length], &mut text);
-    if !io::write_all(STDOUT_FILENO, &text[0..end]) {
-        io::write_all(STDERR_FILENO, b"why: the output is not whole\n");
+    if rt.write_all(&text[0..end]).is_err() {
+        let _ = eprintln!(rt; "why: the output is not whole");
     }
 }
