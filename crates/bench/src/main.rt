@@ -48,7 +48,7 @@ fn morning(rt: &impl Print) -> io::Result<Yard> {
     let y = restarts(rt, yard::laid_out(), PANEL)?;
     let y = announces(rt, y, PANEL)?;
     say(rt, b"Before any board is there\n")?;
-    panel_tries(rt, y)?;
+    panel_tries(rt, &y)?;
     say(rt, b"Board 7 comes up and announces\n")?;
     let y = restarts(rt, y, SEVEN)?;
     let y = announces(rt, y, SEVEN)?;
@@ -56,7 +56,7 @@ fn morning(rt: &impl Print) -> io::Result<Yard> {
     let y = restarts(rt, y, NINE)?;
     let y = announces(rt, y, NINE)?;
     say(rt, b"Both boards are there\n")?;
-    panel_tries(rt, y)?;
+    panel_tries(rt, &y)?;
     Ok(y)
 }
 
@@ -70,10 +70,10 @@ fn in_turn(
 ) -> io::Result<Yard> {
     say(rt, restarted)?;
     let y = restarts(rt, y, who)?;
-    panel_tries(rt, y)?;
+    panel_tries(rt, &y)?;
     say(rt, announced)?;
     let y = announces(rt, y, who)?;
-    panel_tries(rt, y)?;
+    panel_tries(rt, &y)?;
     Ok(y)
 }
 
@@ -84,7 +84,7 @@ fn midday(rt: &impl Print, y: Yard) -> io::Result<Yard> {
         b"The yard: board 7 restarts at midday; board 9 has not, and its points still move\n",
     )?;
     let y = restarts(rt, y, SEVEN)?;
-    panel_tries(rt, y)?;
+    panel_tries(rt, &y)?;
     Ok(y)
 }
 
@@ -95,7 +95,7 @@ fn moved(rt: &impl Print, y: Yard) -> io::Result<()> {
         b"Board 7 announces again, and is then carried from leg 1 to leg 3\n",
     )?;
     let y = carried(announces(rt, y, SEVEN)?, SEVEN, 3);
-    panel_tries(rt, y)?;
+    panel_tries(rt, &y)?;
     in_turn(
         rt,
         y,

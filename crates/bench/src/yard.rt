@@ -1,4 +1,6 @@
 // The yard: a box, a panel on leg 0, and boards 7 and 9, which are on leg 1 until one is carried to another.
+ghost use Rattle.std.specs.Prelude.{◌≡◌};
+
 use crate::boards;
 use crate::boards::Board;
 use crate::words::{legs, lines, say};
@@ -12,7 +14,7 @@ pub(crate) const SEVEN: usize = 1;
 
 pub(crate) const NINE: usize = 2;
 
-#[derive(Clone, Copy)]
+#[derive(Drop)]
 pub(crate) struct Yard {
     pub(crate) gateway: Gateway,
     pub(crate) boards: [Board; 3],
@@ -59,7 +61,7 @@ pub(crate) fn announces(rt: &impl Print, y: Yard, who: usize) -> io::Result<Yard
 }
 
 // The panel's reports go through the box, and each board on a leg that they are sent to looks at what reaches it.
-pub(crate) fn panel_tries(rt: &impl Print, y: Yard) -> io::Result<()> {
+pub(crate) fn panel_tries(rt: &impl Print, y: &Yard) -> io::Result<()> {
     say(rt, b"  the panel sets the route of board 7")?;
     tries(rt, y, 0)?;
     say(rt, b"  the panel sets the route of board 9")?;
@@ -89,14 +91,29 @@ fn pass_on(rt: &impl Print, y: Yard, who: usize, call: Call) -> io::Result<Yard>
     })
 }
 
+// A copy of the state.
+fn copied(g: &Gateway) -> Gateway
+    ensures { result ≡ g.now }
+{
+    Gateway {
+        head: g.head,
+        nodes: g.nodes,
+        starts: g.starts,
+        ports: g.ports,
+        sizes: g.sizes,
+        order: g.order,
+        sets: g.sets,
+    }
+}
+
 // The first so many bytes reach the box.
 fn taken(g: Gateway, leg: u8, bytes: [u8; 32], length: usize) -> Answer {
     let end = length % 33;
     gateway::receive(g, leg, &bytes[0..end])
 }
 
-fn tries(rt: &impl Print, y: Yard, slot: usize) -> io::Result<()> {
-    let gateway = y.gateway;
+fn tries(rt: &impl Print, y: &Yard, slot: usize) -> io::Result<()> {
+    let gateway = copied(&y.gateway);
     let boards = y.boards;
     let on = y.on;
     let panel = boards[0];

@@ -42,13 +42,13 @@ fn day(rt: &impl Print) -> io::Result<()> {
     let event = [0x0A, 0, 0, 0, 0, 7, 0, 1];
     let other = [0x0A, 0, 0, 0, 0, 6, 0, 1];
     let none = legs::nobody();
-    let j = comes_in(rt, g, none, START_OF_7, 8, event)?;
-    let j = comes_in(rt, g, j, MIDDLE_OF_7, 8, [1, 2, 3, 4, 5, 6, 7, 8])?;
-    let j = comes_in(rt, g, j, START_OF_6, 8, other)?;
-    let j = comes_in(rt, g, j, MIDDLE_OF_7, 8, [9, 10, 11, 12, 13, 14, 15, 16])?;
-    let j = comes_in(rt, g, j, LAST_OF_7, 4, [17, 18, 19, 20, 0xEE, 0xEE, 0xEE, 0xEE])?;
+    let j = comes_in(rt, &g, none, START_OF_7, 8, event)?;
+    let j = comes_in(rt, &g, j, MIDDLE_OF_7, 8, [1, 2, 3, 4, 5, 6, 7, 8])?;
+    let j = comes_in(rt, &g, j, START_OF_6, 8, other)?;
+    let j = comes_in(rt, &g, j, MIDDLE_OF_7, 8, [9, 10, 11, 12, 13, 14, 15, 16])?;
+    let j = comes_in(rt, &g, j, LAST_OF_7, 4, [17, 18, 19, 20, 0xEE, 0xEE, 0xEE, 0xEE])?;
     say(rt, b"Board 6 ends its own: nobody asked for its event\n")?;
-    comes_in(rt, g, j, LAST_OF_6, 1, [0xAB, 0, 0, 0, 0, 0, 0, 0])?;
+    comes_in(rt, &g, j, LAST_OF_6, 1, [0xAB, 0, 0, 0, 0, 0, 0, 0])?;
     Ok(())
 }
 
@@ -73,7 +73,7 @@ fn announced(g: Gateway, leg: u8, board: u64, event: u64) -> Gateway {
 // A frame comes in on leg 0; what is handed out goes to the box.
 fn comes_in(
     rt: &impl Print,
-    g: Gateway,
+    g: &Gateway,
     j: Joining,
     header: u32,
     length: u8,

@@ -1,6 +1,6 @@
 // The commands of the case file.
 use crate::reading::Line;
-use crate::tables::byte;
+use crate::tables::{byte, copied};
 use crate::{laid_index, lent, reading, report, tables, why};
 use gateway::{Answer, Gateway};
 use std::io;
@@ -37,9 +37,15 @@ pub(crate) fn obey(rt: &impl Print, g: Gateway, l: Line, number: usize) -> io::R
         LINES => Ok(tables::filled(g, numbers)),
         ORDER => Ok(laid_index::with_order(g, numbers)),
         SETS => Ok(laid_index::with_set(g, numbers)),
-        AT => report::told(rt, g, received(g, byte(numbers[1]), 1, bytes, length)),
-        REPEAT => report::told(rt, g, received(g, byte(numbers[2]), numbers[1], bytes, length)),
-        LENT => report::told(rt, g, lent::received(g, numbers, bytes, length)),
+        AT => {
+            let a = received(copied(&g), byte(numbers[1]), 1, bytes, length);
+            report::told(rt, &g, a)
+        }
+        REPEAT => {
+            let a = received(copied(&g), byte(numbers[2]), numbers[1], bytes, length);
+            report::told(rt, &g, a)
+        }
+        LENT => report::told(rt, &g, lent::received(&g, numbers, bytes, length)),
         WHY => why::asked(rt, g, why::whole(numbers[1], numbers[2]), bytes, length),
         WHY_LENT => why::asked(rt, g, numbers, bytes, length),
         _ => {

@@ -25,7 +25,7 @@ fn with_number(g: Gateway, number: usize) -> Gateway {
     let mut at = number % 256;
     while 0 < at {
         let before = next.order[at - 1];
-        if !behind(g, before, byte(number as u64)) {
+        if !behind(&next, before, byte(number as u64)) {
             next.order[at] = byte(number as u64);
             return next;
         }
@@ -37,7 +37,7 @@ fn with_number(g: Gateway, number: usize) -> Gateway {
 }
 
 // Whether one line stands behind another by port, size and first event.
-fn behind(g: Gateway, one: u8, other: u8) -> bool {
+fn behind(g: &Gateway, one: u8, other: u8) -> bool {
     let a = one as usize;
     let b = other as usize;
     if g.ports[a] != g.ports[b] {
@@ -52,19 +52,19 @@ fn behind(g: Gateway, one: u8, other: u8) -> bool {
 // A port over 7 and a size over 64 are in no set.
 fn with_size(g: Gateway, number: usize) -> Gateway {
     let i = number % 256;
-    let port = g.ports[i];
-    let k = g.sizes[i];
     let mut next = g;
+    let port = next.ports[i];
+    let k = next.sizes[i];
     if 7 < port {
         return next;
     }
     if k < 64 {
         let place = port as usize;
-        next.sets[place] = with_bit(g.sets[place], k);
+        next.sets[place] = with_bit(next.sets[place], k);
         return next;
     }
     if k == 64 {
-        next.sets[8] = with_bit(g.sets[8], port);
+        next.sets[8] = with_bit(next.sets[8], port);
     }
     next
 }
@@ -90,7 +90,7 @@ pub(crate) fn with_set(g: Gateway, numbers: [u64; 16]) -> Gateway {
 }
 
 // The running sums' sum of the first numbers of the order, as of the lines.
-pub(crate) fn order_total(g: Gateway, places: usize) -> u64 {
+pub(crate) fn order_total(g: &Gateway, places: usize) -> u64 {
     let mut sum: u64 = 0;
     let mut all: u64 = 0;
     let mut i = 0;
@@ -106,7 +106,7 @@ pub(crate) fn order_total(g: Gateway, places: usize) -> u64 {
 }
 
 // The same of the sets.
-pub(crate) fn sets_total(g: Gateway) -> u64 {
+pub(crate) fn sets_total(g: &Gateway) -> u64 {
     let mut sum: u64 = 0;
     let mut all: u64 = 0;
     let mut i = 0;

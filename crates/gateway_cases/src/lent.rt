@@ -16,7 +16,7 @@ struct Lent {
 }
 
 // The numbers: how many places of each list are lent, and the port.
-pub(crate) fn received(g: Gateway, numbers: [u64; 16], bytes: [u8; 512], length: usize) -> Answer {
+pub(crate) fn received(g: &Gateway, numbers: [u64; 16], bytes: [u8; 512], length: usize) -> Answer {
     let head = g.head;
     let nodes = g.nodes;
     let starts = g.starts;

@@ -6,15 +6,15 @@ use gateway_rules::{Holder, Reason};
 use std::io;
 
 // What a message came to, and the next state, which comes back.
-pub(crate) fn told(rt: &impl Print, before: Gateway, a: Answer) -> io::Result<Gateway> {
+pub(crate) fn told(rt: &impl Print, before: &Gateway, a: Answer) -> io::Result<Gateway> {
     let g = a.gateway;
     let head = g.head;
     answer(rt, a.refusal, a.sent, head.ports)?;
-    kept(rt, a.refusal, of_everything(before), of_everything(g))?;
-    state(rt, head, total(g, head.count))?;
-    lines(rt, g)?;
-    order(rt, g)?;
-    sets(rt, g)?;
+    kept(rt, a.refusal, of_everything(before), of_everything(&g))?;
+    state(rt, head, total(&g, head.count))?;
+    lines(rt, &g)?;
+    order(rt, &g)?;
+    sets(rt, &g)?;
     Ok(g)
 }
 
@@ -78,7 +78,7 @@ fn state(rt: &impl Print, head: Head, of_all: u64) -> io::Result<()> {
 }
 
 // Of a long table the first four and the last four.
-fn lines(rt: &impl Print, g: Gateway) -> io::Result<()> {
+fn lines(rt: &impl Print, g: &Gateway) -> io::Result<()> {
     let head = g.head;
     let count = head.count;
     let mut i = 0;
@@ -99,7 +99,7 @@ fn lines(rt: &impl Print, g: Gateway) -> io::Result<()> {
 }
 
 // The order up to the count, of a long table the first four, the last four and their total.
-fn order(rt: &impl Print, g: Gateway) -> io::Result<()> {
+fn order(rt: &impl Print, g: &Gateway) -> io::Result<()> {
     let head = g.head;
     let count = at_most(head.count, 256);
     say(rt, b"    order")?;
@@ -121,7 +121,7 @@ fn order(rt: &impl Print, g: Gateway) -> io::Result<()> {
     Ok(())
 }
 
-fn after_last(rt: &impl Print, g: Gateway, printed: usize, count: usize) -> io::Result<()> {
+fn after_last(rt: &impl Print, g: &Gateway, printed: usize, count: usize) -> io::Result<()> {
     if count <= 8 {
         return Ok(());
     }
@@ -132,7 +132,7 @@ fn after_last(rt: &impl Print, g: Gateway, printed: usize, count: usize) -> io::
     hex(rt, order_total(g, count), 16)
 }
 
-fn sets(rt: &impl Print, g: Gateway) -> io::Result<()> {
+fn sets(rt: &impl Print, g: &Gateway) -> io::Result<()> {
     say(rt, b"; sets")?;
     let mut i = 0;
     while i < 9 {
@@ -147,7 +147,7 @@ fn at_most(n: usize, most: usize) -> usize {
 }
 
 // What a refusal keeps: every place of the lists, those of the index too.
-fn of_everything(g: Gateway) -> u64 {
+fn of_everything(g: &Gateway) -> u64 {
     let index = order_total(g, 256).wrapping_add(sets_total(g));
     total(g, 256).wrapping_add(index)
 }

@@ -1,4 +1,6 @@
 // States that are laid out.
+ghost use Rattle.std.specs.Prelude.{◌≡◌};
+
 use crate::laid_index;
 use gateway::{Gateway, Head};
 use range::Block;
@@ -44,6 +46,21 @@ pub(crate) fn filled(g: Gateway, numbers: [u64; 16]) -> Gateway {
     laid_index::indexed(next)
 }
 
+// A copy of the state.
+pub(crate) fn copied(g: &Gateway) -> Gateway
+    ensures { result ≡ g.now }
+{
+    Gateway {
+        head: g.head,
+        nodes: g.nodes,
+        starts: g.starts,
+        ports: g.ports,
+        sizes: g.sizes,
+        order: g.order,
+        sets: g.sets,
+    }
+}
+
 fn left_out(place: u64, first: u64, last: u64, stride: u64) -> bool {
     if place < first {
         return true;
@@ -58,7 +75,7 @@ fn left_out(place: u64, first: u64, last: u64, stride: u64) -> bool {
 }
 
 // The sum of the running sums of what stands at the first places: it tells their order too.
-pub(crate) fn total(g: Gateway, places: usize) -> u64 {
+pub(crate) fn total(g: &Gateway, places: usize) -> u64 {
     let mut sum: u64 = 0;
     let mut all: u64 = 0;
     let mut i = 0;
