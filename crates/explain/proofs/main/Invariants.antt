@@ -3,8 +3,8 @@ use Rattle.std.proofs.Common.{◌-◌, ◌≤◌}
 use Rattle.explanation.specs.Words.{longest}
 use Rattle.explain.proofs.main.Given as goal
 
-abbrev pub invariant-loop : goal.invariant-loop
-invariant-loop l = l.skip ≤ longest
+abbrev pub invariant-loop-file : goal.invariant-loop-file
+invariant-loop-file l = l.skip ≤ longest
 
-abbrev pub decreases-loop : goal.decreases-loop
-decreases-loop l = longest - l.skip
+abbrev pub decreases-loop-file : goal.decreases-loop-file
+decreases-loop-file l = longest - l.skip

@@ -10,8 +10,8 @@ slice_bounds-write_all-end c = laid_within _ _ _ _ c.part-end.ensures.value c.pa
 pub overflow_add-skip : goal.overflow_add-skip
 overflow_add-skip c = let h = full_part _ _ c.part-end.ensures.value (omega arith) in omega (arith, h)
 
-pub loop-decreases : goal.loop-decreases
-loop-decreases c = let h = full_part _ _ c.part-end.ensures.value (omega arith) in omega (arith, h)
+pub loop-file-smaller : goal.loop-file-smaller
+loop-file-smaller c = let h = full_part _ _ c.part-end.ensures.value (omega arith) in omega (arith, h)
 
-pub loop-preserved : goal.loop-preserved
-loop-preserved c = let h = full_part _ _ c.part-end.ensures.value (omega arith) in omega (arith, h)
+pub loop-file-preserved : goal.loop-file-preserved
+loop-file-preserved c = let h = full_part _ _ c.part-end.ensures.value (omega arith) in omega (arith, h)
