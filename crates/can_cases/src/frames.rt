@@ -35,7 +35,12 @@ pub(crate) fn joined(
 }
 
 // What is handed out goes to the box as a message, and out as frames on each leg that it is sent to.
-pub(crate) fn passed_on(rt: &impl Print, g: &Gateway, mti: u16, handed: Gathered) -> io::Result<()> {
+pub(crate) fn passed_on(
+    rt: &impl Print,
+    g: &Gateway,
+    mti: u16,
+    handed: Gathered,
+) -> io::Result<()> {
     let mut bytes = [0u8; 272];
     let length = written(mti, handed, &mut bytes);
     let end = length % 273;

@@ -46,7 +46,14 @@ fn day(rt: &impl Print) -> io::Result<()> {
     let j = comes_in(rt, &g, j, MIDDLE_OF_7, 8, [1, 2, 3, 4, 5, 6, 7, 8])?;
     let j = comes_in(rt, &g, j, START_OF_6, 8, other)?;
     let j = comes_in(rt, &g, j, MIDDLE_OF_7, 8, [9, 10, 11, 12, 13, 14, 15, 16])?;
-    let j = comes_in(rt, &g, j, LAST_OF_7, 4, [17, 18, 19, 20, 0xEE, 0xEE, 0xEE, 0xEE])?;
+    let j = comes_in(
+        rt,
+        &g,
+        j,
+        LAST_OF_7,
+        4,
+        [17, 18, 19, 20, 0xEE, 0xEE, 0xEE, 0xEE],
+    )?;
     say(rt, b"Board 6 ends its own: nobody asked for its event\n")?;
     comes_in(rt, &g, j, LAST_OF_6, 1, [0xAB, 0, 0, 0, 0, 0, 0, 0])?;
     Ok(())

@@ -45,13 +45,7 @@ pub(crate) fn obey(rt: &impl Print, b: Benches, l: Line, number: usize) -> io::R
     })
 }
 
-fn obeyed(
-    rt: &impl Print,
-    b: Bench,
-    command: u64,
-    l: Line,
-    number: usize,
-) -> io::Result<Bench> {
+fn obeyed(rt: &impl Print, b: Bench, command: u64, l: Line, number: usize) -> io::Result<Bench> {
     let numbers = l.numbers;
     let bytes = l.bytes;
     let length = reading::length(l);
