@@ -6,7 +6,7 @@ const MOST: usize = 65537;
 
 const PART: usize = 65536;
 
-// The text in parts, up to the first that does not fill the buffer: together they are the whole text (parts-whole).
+// The text in parts, up to the first that does not fill the buffer: together they are the whole text (parts_whole).
 fn main(rt: HostRuntime) {
     let mut file = [0u8; MOST];
     let length = streams::read_full(&mut rt.stdin(), &mut file);
