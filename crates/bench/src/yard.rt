@@ -1,6 +1,4 @@
 // The yard: a box, a panel on leg 0, and boards 7 and 9, which are on leg 1 until one is carried to another.
-ghost use Rattle.std.specs.Prelude.{◌≡◌};
-
 use crate::boards;
 use crate::boards::Board;
 use crate::words::{legs, lines, say};
@@ -91,21 +89,6 @@ fn pass_on(rt: &impl Print, y: Yard, who: usize, call: Call) -> io::Result<Yard>
     })
 }
 
-// A copy of the state.
-fn copied(g: &Gateway) -> Gateway
-    ensures { result ≡ g.now }
-{
-    Gateway {
-        head: g.head,
-        nodes: g.nodes,
-        starts: g.starts,
-        ports: g.ports,
-        sizes: g.sizes,
-        order: g.order,
-        sets: g.sets,
-    }
-}
-
 // The first so many bytes reach the box.
 fn taken(g: Gateway, leg: u8, bytes: [u8; 32], length: usize) -> Answer {
     let end = length % 33;
@@ -113,7 +96,7 @@ fn taken(g: Gateway, leg: u8, bytes: [u8; 32], length: usize) -> Answer {
 }
 
 fn tries(rt: &impl Print, y: &Yard, slot: usize) -> io::Result<()> {
-    let gateway = copied(&y.gateway);
+    let gateway = y.gateway;
     let boards = y.boards;
     let on = y.on;
     let panel = boards[0];

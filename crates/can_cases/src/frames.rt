@@ -1,6 +1,4 @@
 // Frames in and out.
-ghost use Rattle.std.specs.Prelude.{◌≡◌};
-
 use crate::legs;
 use crate::words::{say, say_bytes, say_count};
 use can::{Gathered, Joined, Joining};
@@ -46,7 +44,7 @@ pub(crate) fn passed_on(
     let end = length % 273;
     say(rt, b"  handed out: ")?;
     say_bytes(rt, &bytes[0..end])?;
-    let a = gateway::receive(copied(g), 0, &bytes[0..end]);
+    let a = gateway::receive(*g, 0, &bytes[0..end]);
     say(rt, b"\n  the box sends it to so many legs: ")?;
     let sent = a.sent;
     say_count(rt, (sent / 2 % 2 + sent / 4 % 2 + sent / 8 % 2) as u64)?;
@@ -54,21 +52,6 @@ pub(crate) fn passed_on(
     goes_out(rt, 1, sent / 2 % 2, mti, handed)?;
     goes_out(rt, 2, sent / 4 % 2, mti, handed)?;
     goes_out(rt, 3, sent / 8 % 2, mti, handed)
-}
-
-// A copy of the state.
-fn copied(g: &Gateway) -> Gateway
-    ensures { result ≡ g.now }
-{
-    Gateway {
-        head: g.head,
-        nodes: g.nodes,
-        starts: g.starts,
-        ports: g.ports,
-        sizes: g.sizes,
-        order: g.order,
-        sets: g.sets,
-    }
 }
 
 fn report(mti: u16, handed: Gathered) -> Message {

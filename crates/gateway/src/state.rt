@@ -14,7 +14,7 @@ pub struct Head {
 // Line i is at place i of four lists, which is less to copy than a list of lines. The index has the lines' numbers in order of port, size, first event
 // and place, and sets of the sizes that occur. Places of the lines and of the order past the count are no part of the state.
 #[repr(C)]
-#[derive(Drop)]
+#[derive(Clone, Copy)]
 pub struct Gateway {
     pub head: Head,
     pub nodes: [u64; 256],

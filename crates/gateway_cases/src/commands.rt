@@ -1,6 +1,6 @@
 // The commands of the case file.
 use crate::reading::Line;
-use crate::tables::{byte, copied};
+use crate::tables::byte;
 use crate::{laid_index, lent, reading, report, tables, why};
 use gateway::{Answer, Gateway};
 use std::io;
@@ -38,11 +38,11 @@ pub(crate) fn obey(rt: &impl Print, g: Gateway, l: Line, number: usize) -> io::R
         ORDER => Ok(laid_index::with_order(g, numbers)),
         SETS => Ok(laid_index::with_set(g, numbers)),
         AT => {
-            let a = received(copied(&g), byte(numbers[1]), 1, bytes, length);
+            let a = received(g, byte(numbers[1]), 1, bytes, length);
             report::told(rt, &g, a)
         }
         REPEAT => {
-            let a = received(copied(&g), byte(numbers[2]), numbers[1], bytes, length);
+            let a = received(g, byte(numbers[2]), numbers[1], bytes, length);
             report::told(rt, &g, a)
         }
         LENT => report::told(rt, &g, lent::received(&g, numbers, bytes, length)),

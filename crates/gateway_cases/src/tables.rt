@@ -1,6 +1,4 @@
 // States that are laid out.
-ghost use Rattle.std.specs.Prelude.{◌≡◌};
-
 use crate::laid_index;
 use gateway::{Gateway, Head};
 use range::Block;
@@ -44,21 +42,6 @@ pub(crate) fn filled(g: Gateway, numbers: [u64; 16]) -> Gateway {
         start = start.wrapping_add(numbers[8]);
     }
     laid_index::indexed(next)
-}
-
-// A copy of the state.
-pub(crate) fn copied(g: &Gateway) -> Gateway
-    ensures { result ≡ g.now }
-{
-    Gateway {
-        head: g.head,
-        nodes: g.nodes,
-        starts: g.starts,
-        ports: g.ports,
-        sizes: g.sizes,
-        order: g.order,
-        sets: g.sets,
-    }
 }
 
 fn left_out(place: u64, first: u64, last: u64, stride: u64) -> bool {
