@@ -45,7 +45,7 @@ find_starter() {
   starter=("$emulator" "$kit/toolchain/lib/ld-linux-x86-64.so.2" --library-path "$kit/toolchain/lib")
 }
 
-# Runs a program, the words given. The language has no exit status: what a program says on standard error, that its output is not whole, becomes status 1.
+# Runs a program, the words given. Where its output is not whole it says so on standard error and ends with 0; that becomes status 1 here.
 run_whole() {
   local said status=0
   { : 3>&1; } 2>/dev/null || fail "standard output is closed"
