@@ -19,6 +19,11 @@ make_sure() {
   fi
 }
 
+# A copy, unless it is there already: what links with the archive is built anew only where the archive changed.
+put_in() {
+  cmp -s "$1" "$2" || cp "$1" "$2"
+}
+
 # rt builds a program when it runs it; on an empty input each ends at once, and what it prints is not wanted.
 build_each() {
   local kind="$1" crate
@@ -26,10 +31,10 @@ build_each() {
   for crate in "$@"; do
     if [ "$kind" = lib ]; then
       (cd "$here/crates/$crate" && rt lib) || return 1
-      cp -u "$here/crates/$crate/out/lib$crate.a" "$here/target/staticlib/" || return 1
+      put_in "$here/crates/$crate/out/lib$crate.a" "$here/target/staticlib/lib$crate.a" || return 1
     else
       (cd "$here/crates/$crate" && rt run) </dev/null >/dev/null || return 1
-      cp -u "$here/crates/$crate/out/$crate" "$here/target/bin/" || return 1
+      put_in "$here/crates/$crate/out/$crate" "$here/target/bin/$crate" || return 1
     fi
   done
 }
