@@ -7,3 +7,4 @@ pub mod Bits
 pub mod Below
 pub mod Firsts
 pub mod Sinces
+pub mod Numbers

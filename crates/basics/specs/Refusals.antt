@@ -1,5 +1,7 @@
 -- Refusals in an order: the first test that applies gives its number (document 01, "Refusal numbers").
-use Rattle.std.specs.Prelude.{ℕ, zero, suc, ◌≡◌, Bool, true, false, cond, not, ◌&&◌, List, [], ◌∷◌, ◌++◌, eqb, leb}
+use Rattle.std.specs.Prelude.{ℕ, zero, suc, ◌≡◌, Bool, true, false, cond, not, ◌&&◌, List, [], ◌∷◌, ◌++◌, eqb, leb, Result, Ok, Err}
+use Rattle.basics.specs.declared.Refusal.{Refusal}
+use Rattle.basics.specs.declared.Refusal.TheVariants.{TooShort, BarredMti, BadNode, BadContent, OtherSource, NoRoom, OutOfBounds, NoSuchPort, NotInitialized, NoSuchSlot, NotAProducer, NotAdvertised, TooManyReplies, NoBlock, NoReport, NotListed, NotBegun, PayloadTooLong, WrongLength, ThirdSender, OtherHeader}
 
 pub record Test : Type 0 where
   pub number : ℕ
@@ -57,3 +59,48 @@ pub record Given (n : ℕ) (ts : List Test) : Type 0 where
   pub earlier : None before
   pub here : test.applies ≡ true
   pub numbered : test.number ≡ n
+
+-- ---- the code's refusals, in document 01's numbers and document 02's
+
+abbrev pub refusal_number : Refusal → ℕ
+refusal_number TooShort = 1
+refusal_number BarredMti = 2
+refusal_number BadNode = 3
+refusal_number BadContent = 4
+refusal_number OtherSource = 5
+refusal_number NoRoom = 6
+refusal_number OutOfBounds = 7
+refusal_number NoSuchPort = 8
+refusal_number NotInitialized = 9
+refusal_number NoSuchSlot = 10
+refusal_number NotAProducer = 11
+refusal_number NotAdvertised = 12
+refusal_number TooManyReplies = 13
+refusal_number NoBlock = 14
+refusal_number NoReport = 15
+refusal_number NotListed = 16
+refusal_number NotBegun = 17
+refusal_number PayloadTooLong = 18
+refusal_number WrongLength = 19
+refusal_number ThirdSender = 20
+refusal_number OtherHeader = 29
+
+-- An answer with its refusal's number.
+abbrev pub in_numbers : {A : Type 0} → Result A Refusal → Result A ℕ
+in_numbers (Ok x) = Ok x
+in_numbers (Err r) = Err (refusal_number r)
+
+-- The number of an answer's refusal, 0 where there is none.
+abbrev pub refusal_in : {A : Type 0} → Result A Refusal → ℕ
+refusal_in (Ok x) = 0
+refusal_in (Err r) = refusal_number r
+
+-- What an answer tells: the value, or the refusal's number and nothing beside it.
+abbrev pub told_of : {A : Type 0} → Result A ℕ → Told (List A)
+told_of (Ok x) = told (x ∷ [])
+told_of (Err n) = refused n []
+
+-- The same with a value beside the number.
+abbrev pub told_or : {A : Type 0} → A → Result A ℕ → Told A
+told_or beside (Ok x) = told x
+told_or beside (Err n) = refused n beside

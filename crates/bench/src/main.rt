@@ -2,12 +2,11 @@
 #![tactic(auto)]
 
 mod boards;
-mod words;
+mod legs;
 mod yard;
 
 use std::io;
-use words::say;
-use yard::{NINE, PANEL, SEVEN, Yard, announces, carried, panel_tries, restarts};
+use yard::{Who, Yard};
 
 // What could not be written is told once: nothing follows the gap.
 fn main(rt: HostRuntime) {
@@ -17,91 +16,60 @@ fn main(rt: HostRuntime) {
 }
 
 fn day(rt: &impl Print) -> io::Result<()> {
-    say(
-        rt,
-        b"The box has 4 legs. The panel is on leg 0, boards 7 and 9 are on leg 1.\n",
-    )?;
-    let y = morning(rt)?;
-    let y = in_turn(
-        rt,
-        y,
-        SEVEN,
-        b"Board 7 restarts\n",
-        b"Board 7 announces again\n",
-    )?;
-    let y = in_turn(
-        rt,
-        y,
-        NINE,
-        b"Board 9 restarts\n",
-        b"Board 9 announces again\n",
-    )?;
-    let y = midday(rt, y)?;
-    moved(rt, y)
+    println!(rt; "The box has 4 legs. The panel is on leg 0, boards 7 and 9 are on leg 1.")?;
+    let mut yard = Yard::laid_out();
+    morning(rt, &mut yard)?;
+    println!(rt; "Board 7 restarts")?;
+    yard.restarts(rt, Who::Seven)?;
+    yard.panel_tries(rt)?;
+    println!(rt; "Board 7 announces again")?;
+    yard.announces(rt, Who::Seven)?;
+    yard.panel_tries(rt)?;
+    println!(rt; "Board 9 restarts")?;
+    yard.restarts(rt, Who::Nine)?;
+    yard.panel_tries(rt)?;
+    println!(rt; "Board 9 announces again")?;
+    yard.announces(rt, Who::Nine)?;
+    yard.panel_tries(rt)?;
+    midday(rt, &mut yard)?;
+    moved(rt, &mut yard)
 }
 
-fn morning(rt: &impl Print) -> io::Result<Yard> {
-    say(
-        rt,
-        b"The panel comes up and identifies the two routes that it sends\n",
-    )?;
-    let y = restarts(rt, yard::laid_out(), PANEL)?;
-    let y = announces(rt, y, PANEL)?;
-    say(rt, b"Before any board is there\n")?;
-    panel_tries(rt, &y)?;
-    say(rt, b"Board 7 comes up and announces\n")?;
-    let y = restarts(rt, y, SEVEN)?;
-    let y = announces(rt, y, SEVEN)?;
-    say(rt, b"Board 9 comes up and announces\n")?;
-    let y = restarts(rt, y, NINE)?;
-    let y = announces(rt, y, NINE)?;
-    say(rt, b"Both boards are there\n")?;
-    panel_tries(rt, &y)?;
-    Ok(y)
-}
-
-// A board restarts, and later announces again; the panel tries both boards after each.
-fn in_turn(
-    rt: &impl Print,
-    y: Yard,
-    who: usize,
-    restarted: &[u8],
-    announced: &[u8],
-) -> io::Result<Yard> {
-    say(rt, restarted)?;
-    let y = restarts(rt, y, who)?;
-    panel_tries(rt, &y)?;
-    say(rt, announced)?;
-    let y = announces(rt, y, who)?;
-    panel_tries(rt, &y)?;
-    Ok(y)
+fn morning(rt: &impl Print, yard: &mut Yard) -> io::Result<()> {
+    println!(rt; "The panel comes up and identifies the two routes that it sends")?;
+    yard.restarts(rt, Who::Panel)?;
+    yard.announces(rt, Who::Panel)?;
+    println!(rt; "Before any board is there")?;
+    yard.panel_tries(rt)?;
+    println!(rt; "Board 7 comes up and announces")?;
+    yard.restarts(rt, Who::Seven)?;
+    yard.announces(rt, Who::Seven)?;
+    println!(rt; "Board 9 comes up and announces")?;
+    yard.restarts(rt, Who::Nine)?;
+    yard.announces(rt, Who::Nine)?;
+    println!(rt; "Both boards are there")?;
+    yard.panel_tries(rt)
 }
 
 // The secretary's story.
-fn midday(rt: &impl Print, y: Yard) -> io::Result<Yard> {
-    say(
-        rt,
-        b"The yard: board 7 restarts at midday; board 9 has not, and its points still move\n",
+fn midday(rt: &impl Print, yard: &mut Yard) -> io::Result<()> {
+    println!(rt;
+        "The yard: board 7 restarts at midday; board 9 has not, and its points still move"
     )?;
-    let y = restarts(rt, y, SEVEN)?;
-    panel_tries(rt, &y)?;
-    Ok(y)
+    yard.restarts(rt, Who::Seven)?;
+    yard.panel_tries(rt)
 }
 
 // The club's: what a board had announced on the leg that it left goes when it comes up on another.
-fn moved(rt: &impl Print, y: Yard) -> io::Result<()> {
-    say(
-        rt,
-        b"Board 7 announces again, and is then carried from leg 1 to leg 3\n",
-    )?;
-    let y = carried(announces(rt, y, SEVEN)?, SEVEN, 3);
-    panel_tries(rt, &y)?;
-    in_turn(
-        rt,
-        y,
-        SEVEN,
-        b"Board 7 comes up on leg 3\n",
-        b"Board 7 announces there\n",
-    )?;
-    Ok(())
+fn moved(rt: &impl Print, yard: &mut Yard) -> io::Result<()> {
+    println!(rt; "Board 7 announces again, and is then carried from leg 1 to leg 3")?;
+    yard.announces(rt, Who::Seven)?;
+    yard.carried(Who::Seven, 3);
+    yard.panel_tries(rt)?;
+    println!(rt; "Board 7 comes up on leg 3")?;
+    yard.restarts(rt, Who::Seven)?;
+    yard.panel_tries(rt)?;
+    println!(rt; "Board 7 announces there")?;
+    yard.announces(rt, Who::Seven)?;
+    yard.panel_tries(rt)
 }

@@ -1,17 +1,15 @@
 -- Answers and messages without enums, as C has them.
-use Rattle.std.specs.Prelude.{ℕ, cond, List, [], eqb}
+use Rattle.std.specs.Prelude.{ℕ, cond, List, [], eqb, Option, Some, None}
 use Rattle.basics.specs.Lists.{first_or}
 use Rattle.basics.specs.Refusals.{Told}
-use Rattle.message.specs.declared.Field.{Field}
-use Rattle.message.specs.declared.Field.TheVariants.{Present, Absent}
 use Rattle.message.specs.declared.Message.{Message}
 use Rattle.message.specs.Mti.{content_at}
 use Rattle.gateway_rules.specs.declared.Holder.{Holder}
 use Rattle.gateway_rules.specs.Reasons.{Numbered, number_in}
-use Rattle.c_face.specs.declared.FlatNumber.{FlatNumber}
-use Rattle.c_face.specs.declared.FlatMessage.{FlatMessage}
-use Rattle.c_face.specs.declared.FlatReading.{FlatReading}
-use Rattle.c_face.specs.declared.FlatWriting.{FlatWriting}
+use Rattle.c_face.specs.declared.flat.FlatNumber.{FlatNumber}
+use Rattle.c_face.specs.declared.flat.FlatMessage.{FlatMessage}
+use Rattle.c_face.specs.declared.flat.FlatReading.{FlatReading}
+use Rattle.c_face.specs.declared.flat.FlatWriting.{FlatWriting}
 use Rattle.c_face.specs.declared.reasons.FlatReason.{FlatReason}
 
 -- ---- ranges
@@ -22,16 +20,16 @@ told_number t = record { refusal = t.refusal; number = t.value }
 -- ---- messages
 
 -- A field is there where its number is not 0.
-abbrev pub has_field : Field → ℕ
-has_field (Present x) = 1
-has_field Absent = 0
+abbrev pub has_field : Option ℕ → ℕ
+has_field (Some x) = 1
+has_field None = 0
 
-abbrev pub field_value : Field → ℕ
-field_value (Present x) = x
-field_value Absent = 0
+abbrev pub field_value : Option ℕ → ℕ
+field_value (Some x) = x
+field_value None = 0
 
-abbrev pub field_of : ℕ → ℕ → Field
-field_of has x = cond (eqb has 0) Absent (Present x)
+abbrev pub field_of : ℕ → ℕ → Option ℕ
+field_of has x = cond (eqb has 0) None (Some x)
 
 abbrev pub message_of : Message → FlatMessage
 message_of m = record {

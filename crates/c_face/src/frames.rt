@@ -8,9 +8,10 @@ ghost use Rattle.can_rules.specs.Splitting.{split_told, out_after_split};
 ghost use Rattle.can.specs.States.{state_of, seen_in, seen_of, RefusalKeeps, NoPayloadIsZero};
 ghost use Rattle.c_face.specs.Flat.{message_from, told_writing};
 
-use crate::{FlatMessage, FlatWriting, flat_writing, message_from};
+use crate::{FlatMessage, FlatWriting};
 use can::{Joined, Joining};
 use can_rules::Frame;
+use message::Message;
 
 #[unsafe(no_mangle)]
 pub extern "C" fn hrislanoth_join(
@@ -37,8 +38,8 @@ pub extern "C" fn hrislanoth_split(
     ensures value { result ≡ told_writing (split_told (listed aliases.now nodes.now) (message_from message) content.now out.old) }
     ensures out_after { out.new ≡ out_after_split (listed aliases.now nodes.now) (message_from message) content.now out.old }
 {
-    let m = message_from(message);
-    flat_writing(can::split(aliases, nodes, m, content, out))
+    let message = Message::from(message);
+    FlatWriting::from(can::split(aliases, nodes, message, content, out))
 }
 
 #[unsafe(no_mangle)]

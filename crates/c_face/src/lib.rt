@@ -1,19 +1,19 @@
 // The proved functions for C and for what links with C; include/hrislanoth.h is the header.
 #![tactic(auto)]
 
+mod flat;
 mod frames;
 mod lists;
 mod reasons;
 mod records;
 
 ghost use Rattle.std.specs.Prelude.{◌≡◌, [], drop};
-ghost use Rattle.basics.specs.Refusals.{refused};
 ghost use Rattle.range.specs.Range.{block_of};
 ghost use Rattle.range.specs.Answer.{number_told};
 ghost use Rattle.range.specs.Comparing.{comparison, comparison_told};
 ghost use Rattle.text.specs.Text.{filled_at, end_at};
 ghost use Rattle.message.specs.Reading.{read_told};
-ghost use Rattle.message.specs.Writing.{writing_told, write_told, out_after};
+ghost use Rattle.message.specs.Writing.{write_told, out_after};
 ghost use Rattle.gateway_rules.specs.Step.{start as started_by};
 ghost use Rattle.index_rules.specs.Index.{index_of};
 ghost use Rattle.index_rules.specs.Boxes.{box_step};
@@ -21,45 +21,12 @@ ghost use Rattle.gateway.specs.State.{box_of, index_in, lists, index_lists};
 ghost use Rattle.gateway.specs.Answers.{seen_in, seen_of, RefusalKeeps, seen_lent, lent_step, LentRefusalKeeps};
 ghost use Rattle.replay.specs.Lines.{text_of as trial_text};
 ghost use Rattle.rehearsal.specs.Lines.{text_of as board_text};
-ghost use Rattle.c_face.specs.Flat.{told_number, message_of, message_from, told_reading, told_writing, has_field, field_value, field_of};
+ghost use Rattle.c_face.specs.Flat.{told_number, message_from, told_reading, told_writing};
 
+pub use flat::{FlatMessage, FlatNumber, FlatReading, FlatWriting};
 use gateway::{Answer, Gateway, Head, LentAnswer};
-use message::{Field, Message, Reading, Writing};
-use range::{Block, Comparison, RangeNumber};
-
-#[repr(C)]
-#[derive(Clone, Copy)]
-pub struct FlatNumber {
-    pub refusal: u8,
-    pub number: u64,
-}
-
-// A message without enums: a field is there where its number before it is not 0.
-#[repr(C)]
-#[derive(Clone, Copy)]
-pub struct FlatMessage {
-    pub mti: u16,
-    pub source: u64,
-    pub has_destination: u8,
-    pub destination: u64,
-    pub has_event: u8,
-    pub event: u64,
-}
-
-#[repr(C)]
-#[derive(Clone, Copy)]
-pub struct FlatReading {
-    pub refusal: u8,
-    pub message: FlatMessage,
-    pub content_at: usize,
-}
-
-#[repr(C)]
-#[derive(Clone, Copy)]
-pub struct FlatWriting {
-    pub refusal: u8,
-    pub bytes: usize,
-}
+use message::Message;
+use range::Block;
 
 #[unsafe(no_mangle)]
 pub extern "C" fn hrislanoth_block_of(number: u64) -> Block
@@ -72,64 +39,21 @@ pub extern "C" fn hrislanoth_block_of(number: u64) -> Block
 pub extern "C" fn hrislanoth_number_of(block: Block) -> FlatNumber
     ensures { result ≡ told_number (number_told block) }
 {
-    match range::number_of(block) {
-        RangeNumber::Number(number) => FlatNumber { refusal: 0, number },
-        RangeNumber::NoNumber => no_range(),
-    }
+    FlatNumber::from(range::number_of(block))
 }
 
 #[unsafe(no_mangle)]
 pub extern "C" fn hrislanoth_compare(first: Block, second: Block) -> FlatNumber
     ensures { result ≡ told_number (comparison_told (comparison first second)) }
 {
-    let number = match range::compare(first, second) {
-        Comparison::Equal => 1,
-        Comparison::FirstInside => 2,
-        Comparison::SecondInside => 3,
-        Comparison::Apart => 4,
-        Comparison::NoBlock => return no_range(),
-    };
-    FlatNumber { refusal: 0, number }
-}
-
-fn no_range() -> FlatNumber
-    ensures { result ≡ told_number (refused 14 0) }
-{
-    FlatNumber {
-        refusal: 14,
-        number: 0,
-    }
+    FlatNumber::from(range::compare(first, second))
 }
 
 #[unsafe(no_mangle)]
 pub extern "C" fn hrislanoth_read(bytes: &[u8]) -> FlatReading
     ensures { result ≡ told_reading (read_told bytes.now) }
 {
-    match message::read(bytes) {
-        Reading::Read(m) => {
-            let content_at = message::content_at(m.mti);
-            let message = flat(m);
-            return FlatReading {
-                refusal: 0,
-                message,
-                content_at,
-            };
-        }
-        Reading::Refused(refusal) => {
-            return FlatReading {
-                refusal,
-                message: FlatMessage {
-                    mti: 0,
-                    source: 0,
-                    has_destination: 0,
-                    destination: 0,
-                    has_event: 0,
-                    event: 0,
-                },
-                content_at: 0,
-            };
-        }
-    }
+    FlatReading::from(message::read(bytes))
 }
 
 #[unsafe(no_mangle)]
@@ -141,8 +65,7 @@ pub extern "C" fn hrislanoth_write(
     ensures value { result ≡ told_writing (write_told (message_from message) content.now out.old) }
     ensures out_after { out.new ≡ out_after (message_from message) content.now out.old }
 {
-    let m = message_from(message);
-    flat_writing(message::write(m, content, out))
+    FlatWriting::from(message::write(Message::from(message), content, out))
 }
 
 #[unsafe(no_mangle)]
@@ -192,67 +115,4 @@ pub extern "C" fn hrislanoth_board_text(file: &[u8], skip: usize, text: &mut [u8
     ensures text_after { text.new ≡ filled_at 0 (drop skip (board_text file.now)) text.old }
 {
     rehearsal::rehearse(file, skip, text)
-}
-
-fn flat(m: Message) -> FlatMessage
-    ensures { result ≡ message_of m }
-{
-    let destination = m.destination;
-    let event = m.event;
-    FlatMessage {
-        mti: m.mti,
-        source: m.source,
-        has_destination: has(destination),
-        destination: value(destination),
-        has_event: has(event),
-        event: value(event),
-    }
-}
-
-pub(crate) fn message_from(message: FlatMessage) -> Message
-    ensures { result ≡ message_from message }
-{
-    Message {
-        mti: message.mti,
-        source: message.source,
-        destination: field(message.has_destination, message.destination),
-        event: field(message.has_event, message.event),
-    }
-}
-
-pub(crate) fn flat_writing(w: Writing) -> FlatWriting
-    ensures { result ≡ told_writing (writing_told w) }
-{
-    match w {
-        Writing::Written(bytes) => FlatWriting { refusal: 0, bytes },
-        Writing::NotWritten(refusal) => FlatWriting { refusal, bytes: 0 },
-    }
-}
-
-fn has(f: Field) -> u8
-    ensures { result ≡ has_field f }
-{
-    match f {
-        Field::Present(_) => 1,
-        Field::Absent => 0,
-    }
-}
-
-fn value(f: Field) -> u64
-    ensures { result ≡ field_value f }
-{
-    match f {
-        Field::Present(x) => x,
-        Field::Absent => 0,
-    }
-}
-
-fn field(has: u8, x: u64) -> Field
-    ensures { result ≡ field_of has x }
-{
-    if has == 0 {
-        Field::Absent
-    } else {
-        Field::Present(x)
-    }
 }

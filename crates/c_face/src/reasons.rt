@@ -1,12 +1,11 @@
 // Why a report is sent to a port or held back from it, for C.
-ghost use Rattle.std.specs.Prelude.{◌≡◌, [], ◌∷◌};
-ghost use Rattle.basics.specs.Refusals.{told};
-ghost use Rattle.gateway_rules.specs.Reasons.{reason_told};
+ghost use Rattle.std.specs.Prelude.{◌≡◌};
 ghost use Rattle.gateway.specs.State.{lists, index_lists};
-ghost use Rattle.gateway.specs.Asking.{lent_why};
+ghost use Rattle.gateway.specs.Asking.{answer_told, lent_why};
 ghost use Rattle.c_face.specs.Flat.{told_reason};
 
-use gateway::{Head, WhyAnswer};
+use basics::Refusal;
+use gateway::Head;
 use gateway_rules::Reason;
 use range::Block;
 
@@ -19,6 +18,32 @@ pub struct FlatReason {
     pub place: usize,
     pub node: u64,
     pub block: Block,
+}
+
+impl From<Result<Reason, Refusal>> for FlatReason {
+    ghost from_gives = { λ r f. f ≡ told_reason (answer_told r) };
+
+    fn from(answer: Result<Reason, Refusal>) -> FlatReason {
+        let mut flat = FlatReason {
+            refusal: 0,
+            reason: 0,
+            place: 0,
+            node: 0,
+            block: Block { start: 0, k: 0 },
+        };
+        match answer {
+            Ok(reason) => {
+                flat.reason = u8::from(reason);
+                if let Reason::HeldBy(line) = reason {
+                    flat.place = line.place;
+                    flat.node = line.node;
+                    flat.block = line.block;
+                }
+            }
+            Err(refusal) => flat.refusal = u8::from(refusal),
+        }
+        flat
+    }
 }
 
 #[unsafe(no_mangle)]
@@ -36,43 +61,7 @@ pub extern "C" fn hrislanoth_why(
 ) -> FlatReason
     ensures { result ≡ told_reason (lent_why head (lists nodes.now starts.now ports.now sizes.now) (index_lists order.now sets.now) port asked bytes.now) }
 {
-    match gateway::why(
+    FlatReason::from(gateway::why(
         head, nodes, starts, ports, sizes, order, sets, port, asked, bytes,
-    ) {
-        WhyAnswer::Because(r) => because(r),
-        WhyAnswer::Refused(refusal) => without_line(refusal, 0),
-    }
-}
-
-fn because(r: Reason) -> FlatReason
-    ensures { result ≡ told_reason (told (reason_told r ∷ [])) }
-{
-    match r {
-        Reason::ArrivalPort => without_line(0, 1),
-        Reason::AutomaticEvent => without_line(0, 2),
-        Reason::OpenPort => without_line(0, 3),
-        Reason::HeldBy(l) => {
-            let block = l.block;
-            return FlatReason {
-                refusal: 0,
-                reason: 4,
-                place: l.place,
-                node: l.node,
-                block,
-            };
-        }
-        Reason::NothingHolds => without_line(0, 5),
-    }
-}
-
-fn without_line(refusal: u8, reason: u8) -> FlatReason
-    ensures { result ≡ record { refusal = refusal; reason = reason; place = 0; node = 0; block = record { start = 0; k = 0 } } }
-{
-    FlatReason {
-        refusal,
-        reason,
-        place: 0,
-        node: 0,
-        block: Block { start: 0, k: 0 },
-    }
+    ))
 }

@@ -1,3 +1,5 @@
+pub mod Only
+pub mod Missing
 pub mod Places
 pub mod Growing
 pub mod Answers

@@ -54,8 +54,8 @@ last_only alias bytes h =
 
 -- ---- as the code writes them
 
-pub room_later : (from at n : ℕ) (payload : List ℕ) → 8 < length payload - from → at + room_for (drop from payload) ≤ n → at + 13 + room_for (drop (from + 8) payload) ≤ n
-room_later from at n payload more h = omega (arith, length-drop from payload, length-drop (from + 8) payload)
+pub room_left : (i n : ℕ) (payload : List ℕ) → i ≤ middles payload → 13 + room_for payload ≤ n → 13 * (i + 1) + room_for (drop (8 * i) payload) ≤ n
+room_left i n payload h room = omega (arith, length-drop (8 * i) payload)
 
 module _ (alias from at : ℕ) (payload out goal : List ℕ) (bytes : Bytes payload) (room : at + room_for (drop from payload) ≤ length out)
     (so : pasted at (to_do alias (drop from payload)) out ≡ goal) where
@@ -64,9 +64,9 @@ module _ (alias from at : ℕ) (payload out goal : List ℕ) (bytes : Bytes payl
 
   module _ (more : 8 < length payload - from) where
     -- Once a middle frame stands there, the rest behind it makes up the same whole.
-    pub middle_written : (after : List ℕ) (number : ℕ) → number ≡ number_at payload from 8 → after ≡ pasted at (spelled_out (header_of Middle alias) 8 number) out
-        → pasted (at + 13) (to_do alias (drop (from + 8) payload)) after ≡ goal
-    middle_written after number e w =
+    pub middle_written : (place later : ℕ) → place ≡ at + 13 → later ≡ from + 8 → (after : List ℕ) (number : ℕ) → number ≡ number_at payload from 8
+        → after ≡ pasted at (spelled_out (header_of Middle alias) 8 number) out → pasted place (to_do alias (drop later payload)) after ≡ goal
+    middle_written place later p d after number e w =
         let eight : length (take 8 (drop from payload)) ≡ 8 = length-take-le 8 (drop from payload) (omega (arith, size)) in
         let own : bytes_of 8 number ≡ take 8 (drop from payload)
         = ap₂ bytes_of (sym eight) e ∙ bytes_of_number (take 8 (drop from payload)) (part_bytes payload from 8 bytes) in
@@ -74,7 +74,8 @@ module _ (alias from at : ℕ) (payload out goal : List ℕ) (bytes : Bytes payl
         let written : after ≡ pasted at frame₁ out
         = w ∙ ap (λ (l : List ℕ). pasted at l out) (frame_of_eight Middle alias number ∙ ap (λ (l : List ℕ). frame_bytes (frame Middle alias l)) own) in
         let thirteen : length frame₁ ≡ 13 = frame_length Middle alias (take 8 (drop from payload)) (omega (arith, eight)) in
-        ap₂ (λ (o l : List ℕ). pasted (at + 13) (to_do alias l) o) written (sym (drop-drop 8 from payload))
+        ap₂ (λ (k n : ℕ). pasted k (to_do alias (drop n payload)) after) p d
+        ∙ ap₂ (λ (o l : List ℕ). pasted (at + 13) (to_do alias l) o) written (sym (drop-drop 8 from payload))
         ∙ ap (λ (k : ℕ). pasted (at + k) (to_do alias (drop 8 (drop from payload))) (pasted at frame₁ out)) (sym thirteen)
         ∙ pasted_next at frame₁ (to_do alias (drop 8 (drop from payload))) out (omega (arith, thirteen))
         ∙ ap (λ (l : List ℕ). pasted at l out) (sym (middle_first alias (drop from payload) (omega (arith, size))))

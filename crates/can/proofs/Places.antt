@@ -1,178 +1,167 @@
 -- The two places of the code, and the rules' list of what is begun.
 use Prim.Native.Nat.{ℕ, zero, suc, ◌-◌, ◌≤◌, ◌<◌}
-use mathlib.Core.Path.{◌≡◌, refl, sym, ap, ap₂, ◌∙◌}
-use mathlib.Core.Bool.{Bool, true, false, cond, not, ◌&&◌, ◌||◌, or-false, false≢true}
+use mathlib.Core.Path.{◌≡◌, refl, sym, ap, ap₂, subst, ◌∙◌}
+use mathlib.Core.Bool.{Bool, true, false, ◌||◌, or-false}
 use mathlib.Core.List.{List, [], ◌∷◌, ◌++◌, map}
 use native.Mathlib.Omega.{arith}
-use borrow.Author.Tests.{ltb-true, lt-ltb, le-ltb}
+use borrow.Author.Tests.{eq-eqb, ne_eqb, lt-ltb, ltb-false}
 use lib.Dec.{eqb, ltb}
-use lib.ListN.{length}
-use Rattle.basics.specs.Lists.{any, without, each}
-use Rattle.basics.proofs.Lists.{any_append, without_append}
-use Rattle.basics.proofs.Bools.{both}
-use Rattle.basics.proofs.Each.{each_length}
+use lib.ListN.{length, get_or, set}
+use Rattle.std.specs.Prelude.{remove}
+use Rattle.basics.specs.Lists.{any, each}
+use Rattle.basics.proofs.Bools.{neither}
+use Rattle.basics.proofs.Each.{each_length, each_at}
 use Rattle.can_rules.specs.Aliases.{repeats}
-use Rattle.can_rules.specs.Joining.{Begun, bad_joining, too_long, dropped, of_sender}
+use Rattle.can_rules.specs.Joining.{Begun, bad_joining, too_long, has_begun, of_sender}
 use Rattle.can.specs.declared.Gathered.{Gathered}
 use Rattle.can.specs.declared.Joining.{Joining}
-use Rattle.can.specs.States.{payload_of, begun_of, gathered_at, state_of, in_use}
+use Rattle.can.specs.States.{payload_of, begun_of, with_more, gathered_at, state_of, Only, here, later}
 
 -- ---- the list, place by place
 
-pub state_parts : (j : Joining) → j.count ≤ 2 → state_of j ≡ in_use (ltb 0 j.count) j.first ++ in_use (ltb 1 j.count) j.second
-unfolding state_of each
-state_parts j h = go j.count h
-  where
-    go : (c : ℕ) → c ≤ 2 → each c (λ i. begun_of (gathered_at j i)) ≡ in_use (ltb 0 c) j.first ++ in_use (ltb 1 c) j.second
-    go zero h = refl
-    go (suc zero) h = refl
-    go (suc (suc zero)) h = refl
-    go (suc (suc (suc c))) h = absurd (omega arith)
+module _ (j : Joining) where
+  pub state_length : length (state_of j) ≡ j.count
+  unfolding state_of
+  state_length = each_length j.count (λ i. begun_of (gathered_at j i))
 
--- The same where the count and the places are known.
-pub state_with : (j : Joining) (c : ℕ) (g s : Gathered) → j.count ≡ c → c ≤ 2 → j.first ≡ g → j.second ≡ s → state_of j ≡ in_use (ltb 0 c) g ++ in_use (ltb 1 c) s
-state_with j c g s e h f k =
-    state_parts j (omega (arith, e))
-    ∙ (λ i. in_use (ltb 0 (e i)) (f i) ++ in_use (ltb 1 (e i)) (k i))
+  pub state_at : (b : Begun) (i : ℕ) → i < j.count → get_or (state_of j) i b ≡ begun_of (gathered_at j i)
+  unfolding state_of
+  state_at b i h = each_at j.count (λ i. begun_of (gathered_at j i)) b i h
 
-pub state_length : (j : Joining) → length (state_of j) ≡ j.count
-unfolding state_of
-state_length j = each_length j.count (λ i. begun_of (gathered_at j i))
+  abbrev listed_up_to : ℕ → List Begun
+  listed_up_to n = each n (λ i. begun_of (gathered_at j i))
 
--- ---- a test of any
+  pub of_none : j.count ≡ 0 → state_of j ≡ []
+  unfolding state_of each
+  of_none e = ap listed_up_to e
 
-in_use_any : (test : Begun → Bool) (used : Bool) (g : Gathered) → any test (in_use used g) ≡ (used && test (begun_of g))
-in_use_any test true g = or-false (test (begun_of g))
-in_use_any test false g = refl
+  pub of_one : j.count ≡ 1 → state_of j ≡ begun_of j.first ∷ []
+  unfolding state_of each
+  of_one e = ap listed_up_to e
 
-pub any_place : (test : Begun → Bool) (j : Joining) → j.count ≤ 2
-    → any test (state_of j) ≡ ((ltb 0 j.count && test (begun_of j.first)) || (ltb 1 j.count && test (begun_of j.second)))
-any_place test j h =
-    ap (any test) (state_parts j h)
-    ∙ any_append test (in_use (ltb 0 j.count) j.first) (in_use (ltb 1 j.count) j.second)
-    ∙ ap₂ (λ (a b : Bool). a || b) (in_use_any test (ltb 0 j.count) j.first) (in_use_any test (ltb 1 j.count) j.second)
-
-module _ (test : Begun → Bool) (j : Joining) (h : j.count ≤ 2) where
-  abbrev one : Bool
-  one = ltb 0 j.count && test (begun_of j.first)
-
-  abbrev two : Bool
-  two = ltb 1 j.count && test (begun_of j.second)
-
-  pub any_first : (ltb 0 j.count && test (begun_of j.first)) ≡ true → true ≡ any test (state_of j)
-  any_first e = sym (any_place test j h ∙ ap (λ (t : Bool). t || two) e)
-
-  pub any_second : (ltb 0 j.count && test (begun_of j.first)) ≡ false → (ltb 1 j.count && test (begun_of j.second)) ≡ any test (state_of j)
-  any_second e = sym (any_place test j h ∙ ap (λ (t : Bool). t || two) e)
-
--- ---- one left out
-
-in_use_without : (test : Begun → Bool) (used : Bool) (g : Gathered) → without test (in_use used g) ≡ in_use (used && not (test (begun_of g))) g
-in_use_without test true g = go (test (begun_of g))
-  where
-    go : (t : Bool) → cond t [] (begun_of g ∷ []) ≡ in_use (not t) g
-    go true = refl
-    go false = refl
-in_use_without test false g = refl
-
-left_out : (u t : Bool) → (u && t) ≡ true → (u && not t) ≡ false
-left_out true true e = refl
-left_out true false e = absurd (false≢true e)
-left_out false t e = refl
-
-stays : (u t : Bool) → (u && t) ≡ false → (u && not t) ≡ u
-stays true true e = absurd (false≢true (sym e))
-stays true false e = refl
-stays false t e = refl
-
-module _ (n : ℕ) (j : Joining) (h : j.count ≤ 2) where
-  abbrev is_first : Bool
-  is_first = ltb 0 j.count && eqb j.first.sender n
-
-  abbrev is_second : Bool
-  is_second = ltb 1 j.count && eqb j.second.sender n
-
-  parts_left : dropped n (state_of j)
-      ≡ in_use (ltb 0 j.count && not (eqb j.first.sender n)) j.first ++ in_use (ltb 1 j.count && not (eqb j.second.sender n)) j.second
-  parts_left =
-      ap (without (of_sender n)) (state_parts j h)
-      ∙ without_append (of_sender n) (in_use (ltb 0 j.count) j.first) (in_use (ltb 1 j.count) j.second)
-      ∙ ap₂ (λ (a b : List Begun). a ++ b) (in_use_without (of_sender n) (ltb 0 j.count) j.first) (in_use_without (of_sender n) (ltb 1 j.count) j.second)
-
-  -- What is left of the two, by whether each is the sender's.
-  left_of : (a b : Bool) → (ltb 0 j.count && not (eqb j.first.sender n)) ≡ a → (ltb 1 j.count && not (eqb j.second.sender n)) ≡ b
-      → dropped n (state_of j) ≡ in_use a j.first ++ in_use b j.second
-  left_of a b e f = parts_left ∙ (λ i. in_use (e i) j.first ++ in_use (f i) j.second)
-
-  pub drop_both : (k : Joining) → is_first ≡ true → is_second ≡ true → k.count ≡ 0 → state_of k ≡ dropped n (state_of j)
-  drop_both k e f c =
-      state_with k 0 k.first k.second c (omega arith) refl refl
-      ∙ sym (left_of false false (left_out (ltb 0 j.count) (eqb j.first.sender n) e) (left_out (ltb 1 j.count) (eqb j.second.sender n) f))
-
-  pub drop_first : (k : Joining) → is_first ≡ true → is_second ≡ false → k.count ≡ j.count - 1 → k.first ≡ j.second → state_of k ≡ dropped n (state_of j)
-  drop_first k e f c g =
-      state_with k (j.count - 1) j.second k.second c (omega arith) g refl
-      ∙ go j.count h
-      ∙ sym (left_of false (ltb 1 j.count) (left_out (ltb 0 j.count) (eqb j.first.sender n) e) (stays (ltb 1 j.count) (eqb j.second.sender n) f))
-    where
-      go : (c : ℕ) → c ≤ 2 → in_use (ltb 0 (c - 1)) j.second ++ in_use (ltb 1 (c - 1)) k.second ≡ in_use (ltb 1 c) j.second
-      go zero h = refl
-      go (suc zero) h = refl
-      go (suc (suc zero)) h = refl
-      go (suc (suc (suc c))) h = absurd (omega arith)
-
-  pub drop_second : (k : Joining) → is_first ≡ false → is_second ≡ true → k.count ≡ 1 → k.first ≡ j.first → state_of k ≡ dropped n (state_of j)
-  drop_second k e f c g =
-      let more : 1 < j.count = ltb-true 1 j.count (both (ltb 1 j.count) (eqb j.second.sender n) f).0 in
-      state_with k 1 j.first k.second c (omega arith) g refl
-      ∙ sym (left_of true false (stays (ltb 0 j.count) (eqb j.first.sender n) e ∙ lt-ltb 0 j.count (omega arith)) (left_out (ltb 1 j.count) (eqb j.second.sender n) f))
-
-  pub drop_none : is_first ≡ false → is_second ≡ false → state_of j ≡ dropped n (state_of j)
-  drop_none e f =
-      state_parts j h
-      ∙ sym (left_of (ltb 0 j.count) (ltb 1 j.count) (stays (ltb 0 j.count) (eqb j.first.sender n) e) (stays (ltb 1 j.count) (eqb j.second.sender n) f))
-
--- ---- one more
-
-pub begin_first : (j k : Joining) (b : Begun) → j.count ≡ 0 → k.count ≡ 1 → begun_of k.first ≡ b → state_of k ≡ state_of j ++ (b ∷ [])
-begin_first j k b e c f =
-    state_with k 1 k.first k.second c (omega arith) refl refl
-    ∙ ap (λ (x : Begun). x ∷ []) f
-    ∙ sym (ap (λ (s : List Begun). s ++ (b ∷ [])) (state_with j 0 j.first j.second e (omega arith) refl refl))
-
-pub begin_second : (j k : Joining) (b : Begun) → j.count ≡ 1 → k.count ≡ 2 → k.first ≡ j.first → begun_of k.second ≡ b → state_of k ≡ state_of j ++ (b ∷ [])
-begin_second j k b e c f g =
-    state_with k 2 j.first k.second c (omega arith) f refl
-    ∙ ap (λ (x : Begun). begun_of j.first ∷ x ∷ []) g
-    ∙ sym (ap (λ (s : List Begun). s ++ (b ∷ [])) (state_with j 1 j.first j.second e (omega arith) refl refl))
-
--- ---- out of bounds
-
-pub many : (j : Joining) → 2 < j.count → true ≡ bad_joining (state_of j)
-unfolding bad_joining
-many j h = sym (ap (λ (t : Bool). t || (any too_long (state_of j) || repeats (map (λ b. b.sender) (state_of j)))) (lt-ltb 2 (length (state_of j)) (omega (arith, state_length j))))
-
-twice : (j : Joining) → j.count ≤ 2 → repeats (map (λ b. b.sender) (state_of j)) ≡ (ltb 1 j.count && eqb j.second.sender j.first.sender)
-twice j h = ap (λ (s : List Begun). repeats (map (λ b. b.sender) s)) (state_parts j h) ∙ go j.count h
-  where
-    go : (c : ℕ) → c ≤ 2
-        → repeats (map (λ b. b.sender) (in_use (ltb 0 c) j.first ++ in_use (ltb 1 c) j.second)) ≡ (ltb 1 c && eqb j.second.sender j.first.sender)
-    go zero h = refl
-    go (suc zero) h = refl
-    go (suc (suc zero)) h = or-false (eqb j.second.sender j.first.sender || false) ∙ or-false (eqb j.second.sender j.first.sender)
-    go (suc (suc (suc c))) h = absurd (omega arith)
-
-few : (j : Joining) → j.count ≤ 2 → ltb 2 (length (state_of j)) ≡ false
-few j h = le-ltb 2 (length (state_of j)) (omega (arith, state_length j))
+  pub of_two : j.count ≡ 2 → state_of j ≡ begun_of j.first ∷ begun_of j.second ∷ []
+  unfolding state_of each
+  of_two e = ap listed_up_to e
 
 -- The length of a place's payload is the number that it has.
 pub payload_length : (g : Gathered) → length (payload_of g) ≡ g.length
 payload_length g = each_length g.length _
 
-pub long : (j : Joining) → j.count ≤ 2 → any too_long (state_of j) ≡ true → true ≡ bad_joining (state_of j)
-unfolding bad_joining
-long j h e = sym (ap₂ (λ (a b : Bool). a || (b || repeats (map (λ b. b.sender) (state_of j)))) (few j h) e)
+-- ---- out of bounds
 
-pub sound : (j : Joining) → j.count ≤ 2 → any too_long (state_of j) ≡ false → (ltb 1 j.count && eqb j.second.sender j.first.sender) ≡ bad_joining (state_of j)
-unfolding bad_joining
-sound j h e = sym (ap₂ (λ (a b : Bool). a || (b || repeats (map (λ b. b.sender) (state_of j)))) (few j h) e ∙ twice j h)
+or_assoc : (a b c : Bool) → ((a || b) || c) ≡ (a || (b || c))
+or_assoc true b c = refl
+or_assoc false b c = refl
+
+module _ (j : Joining) where
+  abbrev sent : List Begun → List ℕ
+  sent s = map (λ b. b.sender) s
+
+  abbrev bad : List Begun → Bool
+  bad s = ltb 2 (length s) || (any too_long s || repeats (sent s))
+
+  pub good_none : j.count ≡ 0 → false ≡ bad_joining (state_of j)
+  unfolding bad_joining
+  good_none e = sym (ap bad (of_none j e))
+
+  pub bounds_one : j.count ≡ 1 → ltb 256 j.first.length ≡ bad_joining (state_of j)
+  unfolding bad_joining
+  bounds_one e =
+      sym (ap bad (of_one j e) ∙ or-false (ltb 256 (length (payload_of j.first)) || false) ∙ or-false (ltb 256 (length (payload_of j.first))) ∙ ap (ltb 256) (payload_length j.first))
+
+  pub bounds_two : j.count ≡ 2 → (ltb 256 j.first.length || (ltb 256 j.second.length || eqb j.second.sender j.first.sender)) ≡ bad_joining (state_of j)
+  unfolding bad_joining
+  bounds_two e =
+      sym (ap bad (of_two j e)
+      ∙ (λ i. (ltb 256 (payload_length j.first i) || (or-false (ltb 256 (payload_length j.second i)) i)) || (or-false (or-false (eqb j.second.sender j.first.sender) i) i))
+      ∙ or_assoc (ltb 256 j.first.length) (ltb 256 j.second.length) (eqb j.second.sender j.first.sender))
+
+  pub many : 2 < j.count → true ≡ bad_joining (state_of j)
+  unfolding bad_joining
+  many h = sym (ap (λ (t : Bool). t || (any too_long (state_of j) || repeats (sent (state_of j)))) (lt-ltb 2 (length (state_of j)) (let n = state_length j in omega arith)))
+
+  -- In bounds two are followed at most, and each has 256 bytes at most.
+  module _ (good : bad_joining (state_of j) ≡ false) where
+    pub few_senders : j.count ≤ 2
+    unfolding bad_joining
+    few_senders = let n = state_length j in let few = ltb-false 2 (length (state_of j)) (neither _ _ good).0 in omega arith
+
+    pub none_long : any too_long (state_of j) ≡ false
+    unfolding bad_joining
+    none_long = (neither (any too_long (state_of j)) _ (neither (ltb 2 (length (state_of j))) _ good).1).0
+
+-- ---- what becomes of the list
+
+module _ (j k : Joining) (few : j.count ≤ 2) where
+  pub removed_first : (i : ℕ) → i ≡ 0 → i < j.count → k.count ≡ j.count - 1 → k.first ≡ j.second → state_of k ≡ remove (state_of j) i
+  removed_first i z some c f = subst (λ n. state_of k ≡ remove (state_of j) n) (sym z) (go j.count refl (omega arith) few)
+    where
+      go : (n : ℕ) → j.count ≡ n → 0 < n → n ≤ 2 → state_of k ≡ remove (state_of j) 0
+      go zero e some few = absurd (omega arith)
+      go (suc zero) e some few = of_none k (omega arith) ∙ sym (ap (λ s. remove s 0) (of_one j e))
+      go (suc (suc zero)) e some few = of_one k (omega arith) ∙ ap (λ g. begun_of g ∷ []) f ∙ sym (ap (λ s. remove s 0) (of_two j e))
+      go (suc (suc (suc n))) e some few = absurd (omega arith)
+
+  pub removed_second : (i : ℕ) → i ≡ 1 → i < j.count → k.count ≡ j.count - 1 → k.first ≡ j.first → state_of k ≡ remove (state_of j) i
+  removed_second i z two c f =
+      subst (λ n. state_of k ≡ remove (state_of j) n) (sym z)
+      (of_one k (omega arith) ∙ ap (λ g. begun_of g ∷ []) f ∙ sym (ap (λ s. remove s 1) (of_two j (omega arith))))
+
+  module _ (bytes : List ℕ) where
+    pub grown_first : (i : ℕ) → i ≡ 0 → i < j.count → k.count ≡ j.count → begun_of k.first ≡ with_more j.first bytes → k.second ≡ j.second
+        → state_of k ≡ set (state_of j) i (with_more (gathered_at j i) bytes)
+    grown_first i z some c f g = subst (λ n. state_of k ≡ set (state_of j) n (with_more (gathered_at j n) bytes)) (sym z) (go j.count refl (omega arith) few)
+      where
+        go : (n : ℕ) → j.count ≡ n → 0 < n → n ≤ 2 → state_of k ≡ set (state_of j) 0 (with_more j.first bytes)
+        go zero e some few = absurd (omega arith)
+        go (suc zero) e some few = of_one k (omega arith) ∙ ap (λ x. x ∷ []) f ∙ sym (ap (λ s. set s 0 (with_more j.first bytes)) (of_one j e))
+        go (suc (suc zero)) e some few = of_two k (omega arith) ∙ ap₂ (λ x y. x ∷ begun_of y ∷ []) f g ∙ sym (ap (λ s. set s 0 (with_more j.first bytes)) (of_two j e))
+        go (suc (suc (suc n))) e some few = absurd (omega arith)
+
+    pub grown_second : (i : ℕ) → i ≡ 1 → i < j.count → k.count ≡ j.count → k.first ≡ j.first → begun_of k.second ≡ with_more j.second bytes
+        → state_of k ≡ set (state_of j) i (with_more (gathered_at j i) bytes)
+    grown_second i z two c f g =
+        subst (λ n. state_of k ≡ set (state_of j) n (with_more (gathered_at j n) bytes)) (sym z)
+        (of_two k (omega arith) ∙ ap₂ (λ x y. begun_of x ∷ y ∷ []) f g ∙ sym (ap (λ s. set s 1 (with_more j.second bytes)) (of_two j (omega arith))))
+
+pub begun_first : (j k : Joining) (b : Begun) → j.count ≡ 0 → k.count ≡ 1 → begun_of k.first ≡ b → state_of k ≡ state_of j ++ (b ∷ [])
+begun_first j k b e c f = of_one k c ∙ ap (λ x. x ∷ []) f ∙ sym (ap (λ s. s ++ (b ∷ [])) (of_none j e))
+
+pub begun_second : (j k : Joining) (b : Begun) → j.count ≡ 1 → k.count ≡ 2 → k.first ≡ j.first → begun_of k.second ≡ b → state_of k ≡ state_of j ++ (b ∷ [])
+begun_second j k b e c f g = of_two k c ∙ ap₂ (λ x y. begun_of x ∷ y ∷ []) f g ∙ sym (ap (λ s. s ++ (b ∷ [])) (of_one j e))
+
+-- ---- where what a sender has begun stands
+
+module _ (j : Joining) (n : ℕ) (good : bad_joining (state_of j) ≡ false) where
+  -- Of two, the senders differ.
+  differ : j.count ≡ 2 → eqb j.second.sender j.first.sender ≡ false
+  differ e = (neither (ltb 256 j.second.length) _ (neither (ltb 256 j.first.length) _ (bounds_two j e ∙ good)).1).1
+
+  pub first_place : 0 < j.count → j.first.sender ≡ n → Only (of_sender n) (state_of j) 0
+  first_place some f = go j.count refl some (few_senders j good)
+    where
+      own : of_sender n (begun_of j.first) ≡ true
+      own = eq-eqb j.first.sender n f
+
+      go : (c : ℕ) → j.count ≡ c → 0 < c → c ≤ 2 → Only (of_sender n) (state_of j) 0
+      go zero e some few = absurd (omega arith)
+      go (suc zero) e some few = subst (λ s. Only (of_sender n) s 0) (sym (of_one j e)) (here own refl)
+      go (suc (suc zero)) e some few =
+          subst (λ s. Only (of_sender n) s 0) (sym (of_two j e))
+          (here own (or-false (eqb j.second.sender n) ∙ ap (eqb j.second.sender) (sym f) ∙ differ e))
+      go (suc (suc (suc c))) e some few = absurd (omega arith)
+
+  pub second_place : 1 < j.count → (0 < j.count → j.first.sender ≡ n → ⊥) → j.second.sender ≡ n → Only (of_sender n) (state_of j) 1
+  second_place two f g =
+      let e : j.count ≡ 2 = (let few = few_senders j good in omega arith) in
+      subst (λ s. Only (of_sender n) s 1) (sym (of_two j e)) (later (ne_eqb j.first.sender n (f (omega arith))) (here (eq-eqb j.second.sender n g) refl))
+
+  pub no_place : (0 < j.count → j.first.sender ≡ n → ⊥) → (1 < j.count → j.second.sender ≡ n → ⊥) → has_begun n (state_of j) ≡ false
+  no_place f g = go j.count refl (few_senders j good)
+    where
+      go : (c : ℕ) → j.count ≡ c → c ≤ 2 → has_begun n (state_of j) ≡ false
+      go zero e few = ap (has_begun n) (of_none j e)
+      go (suc zero) e few = ap (has_begun n) (of_one j e) ∙ or-false (eqb j.first.sender n) ∙ ne_eqb j.first.sender n (f (omega arith))
+      go (suc (suc zero)) e few =
+          ap (has_begun n) (of_two j e) ∙ ap₂ (λ s t. s || (t || false)) (ne_eqb j.first.sender n (f (omega arith))) (ne_eqb j.second.sender n (g (omega arith)))
+      go (suc (suc (suc c))) e few = absurd (omega arith)

@@ -1,4 +1,7 @@
 -- The tests of splitting, as the code makes them, and what they leave of the message.
+use Rattle.std.specs.Prelude.{Result, Ok, Err, Some, None as Missing, IfSome, slice_get}
+use Rattle.std.proofs.Common.{subst}
+use Rattle.basics.specs.declared.Refusal.{Refusal}
 use Prim.Native.Nat.{ℕ, zero, suc, ◌+◌, ◌*◌, ◌≤◌, ◌<◌}
 use mathlib.Core.Path.{◌≡◌, refl, sym, ap, ap₂, ◌∙◌}
 use mathlib.Core.Logic.{◌⊎◌, inl, inr, ⊎_elim}
@@ -7,34 +10,35 @@ use mathlib.Core.List.{List, [], ◌∷◌, ◌++◌, append-nil}
 use native.Mathlib.Omega.{arith}
 use borrow.Author.Tests.{eq-eqb, ne_eqb, eqb-true, eqb-false, ltb-false, lt-ltb, le-ltb}
 use lib.Dec.{eqb, ltb}
-use lib.ListN.{length, get_or, length-append}
+use lib.ListN.{length, length-append}
 use Rattle.numbers.specs.Numbers.{bytes_of, pasted}
 use Rattle.numbers.proofs.Laws.{bytes_length}
 use Rattle.numbers.proofs.Pasting.{pasted_first}
-use Rattle.basics.specs.Lists.{any}
-use Rattle.basics.specs.Refusals.{Test, refuse, first_of, answered, Told, told, refused, None}
+use Rattle.can_aliases.proofs.Lists.{low_enough}
+use Rattle.basics.specs.Refusals.{Test, refuse, first_of, answered, Told, told, refused, refusal_number, refusal_in, in_numbers, told_of, None}
 use Rattle.basics.proofs.Bools.{neither}
 use Rattle.basics.proofs.Firsts.{first_some, first_after, first_none, first_passed, rest_passed, first_up_to, told_number_lem, answered_yes, answered_no}
 use Rattle.message.specs.declared.Kind.TheVariants.{EventReport}
-use Rattle.message.specs.declared.Field.TheVariants.{Present, Absent}
 use Rattle.message.specs.declared.Message.{Message}
-use Rattle.message.specs.declared.Writing.{Writing}
-use Rattle.message.specs.declared.Writing.TheVariants.{Written, NotWritten}
 use Rattle.message.specs.Mti.{addressed, carries_event, barred, mtis_of, meaning_of}
-use Rattle.message.specs.Messages.{bad_node, content_tests, message_bytes, field_bytes, misplaced, bad_content}
-use Rattle.message.specs.Writing.{no_room, write_tests, writing_told, write_told, overwritten}
+use Rattle.message.specs.Messages.{content_tests, message_bytes, field_bytes, misplaced, bad_content}
+use Rattle.message.specs.Writing.{no_room, write_tests, write_told, overwritten}
 use Rattle.message.proofs.KindsOfMti.{kind_exactly}
 use Rattle.message.proofs.Writings.{content_placed}
 use Rattle.can_rules.specs.declared.Frame.{Frame}
 use Rattle.can_rules.specs.declared.Part.TheVariants.{Whole, Start}
 use Rattle.can_rules.specs.Frames.{header_of, frame, frame_bytes, all_bytes}
-use Rattle.can_rules.specs.Aliases.{Aliases, most_pairs, highest_alias, bad_alias, bad_aliases, place_in, no_alias, alias_for}
+use Rattle.can_rules.specs.Aliases.{Aliases, highest_alias, bad_aliases, no_alias, alias_for}
 use Rattle.can_rules.specs.Splitting.{middles, no_report, frames_of, split_of, split_tests, split_told, out_after_split}
 use Rattle.can.specs.Splits.{message_tests, room_tests, room_told, out_where_room, to_do}
 use Rattle.can.proofs.Written.{spelled_out, spelled_length, next, frame_of_eight}
 use Rattle.can.proofs.Pieces.{to_do_length}
 
 -- ---- writing where there is no room
+
+told_refusal : {A : Type 0} (w : Result A Refusal) → (told_of (in_numbers w)).refusal ≡ refusal_in w
+told_refusal (Ok x) = refl
+told_refusal (Err r) = refl
 
 module _ (m : Message) (payload : List ℕ) where
   -- The refusals 2 to 5.
@@ -54,28 +58,31 @@ module _ (m : Message) (payload : List ℕ) where
   by_writing zero e = last_is_6 ∙ first_after ((first_none before29 refl).0 e) (refuse 6 true ∷ [])
   by_writing (suc k) e = last_is_6 ∙ first_some before29 (refuse 6 true ∷ []) (λ z. omega (arith, z, e)) ∙ e ∙ sym (ap (λ (t : Bool). cond t 6 (suc k)) (ne_eqb (suc k) 0 (λ z. omega (arith, z))))
 
-  module _ (w : Writing) (e : writing_told w ≡ write_told m payload []) where
-    number : (writing_told w).refusal ≡ first_of (write_tests m payload [])
+  module _ (w : Result ℕ Refusal) (e : told_of (in_numbers w) ≡ write_told m payload []) where
+    number : refusal_in w ≡ first_of (write_tests m payload [])
     unfolding write_told
-    number = ap (λ (t : Told (List ℕ)). t.refusal) e ∙ told_number_lem (write_tests m payload []) (length (message_bytes m payload))
+    number = sym (told_refusal w) ∙ ap (λ (t : Told (List ℕ)). t.refusal) e ∙ told_number_lem (write_tests m payload []) (length (message_bytes m payload))
 
     small : first_of before29 ≤ 5
     small = first_up_to 5 before29 refl
 
     -- Nothing is written.
-    pub never_written : (n : ℕ) → w ≡ Written n → ⊥
+    pub never_written : (n : ℕ) → w ≡ Ok n → ⊥
     never_written n f = go (first_of before29) refl
       where
         none : first_of (write_tests m payload []) ≡ 0
-        none = sym number ∙ ap (λ (v : Writing). (writing_told v).refusal) f
+        none = sym number ∙ ap refusal_in f
 
         go : (k : ℕ) → first_of before29 ≡ k → ⊥
         go zero g = omega (arith, sym (by_writing zero g) ∙ none)
         go (suc k) g = omega (arith, sym (by_writing (suc k) g ∙ ap (λ (t : Bool). cond t 6 (suc k)) (ne_eqb (suc k) 0 (λ z. omega (arith, z)))) ∙ none)
 
-    module _ (n : ℕ) (f : w ≡ NotWritten n) where
+    module _ (r : Refusal) (f : w ≡ Err r) where
+      abbrev n : ℕ
+      n = refusal_number r
+
       given : n ≡ first_of (write_tests m payload [])
-      given = sym (ap (λ (v : Writing). (writing_told v).refusal) f) ∙ number
+      given = sym (ap refusal_in f) ∙ number
 
       pub refused_before : (n ≡ 6 → ⊥) → n ≡ first_of (message_tests m payload)
       refused_before other = go (first_of before29) refl
@@ -130,7 +137,7 @@ module _ (m : Message) (payload : List ℕ) (good : first_of (message_tests m pa
       go false e false f = absurd (true≢false (sym (ap₂ (λ (s t : Bool). not (s || (t || false))) e f) ∙ found))
 
   -- Both MTIs carry an event.
-  pub event_there : m.event ≡ Absent → ⊥
+  pub event_there : m.event ≡ Missing → ⊥
   event_there e = true≢false (sym (carried report) ∙ sym (ap (misplaced (carries_event m.mti)) e) ∙ (content_placed m payload content).event)
     where
       carried : (m.mti ≡ 0x05B4) ⊎ (m.mti ≡ 0x0F14) → carries_event m.mti ≡ true
@@ -150,22 +157,22 @@ module _ (m : Message) (payload : List ℕ) (good : first_of (message_tests m pa
 
 -- ---- where only room is left to test
 
-module _ (alias e : ℕ) (m : Message) (payload out left : List ℕ) (there : m.event ≡ Present e) where
+module _ (alias e : ℕ) (m : Message) (payload out left : List ℕ) (there : m.event ≡ Some e) where
   abbrev fs : List Frame
   fs = frames_of alias m payload
 
   -- What is told, and what is left in the output.
-  abbrev Answers : Writing → List ℕ → Type 0
-  Answers r after = (writing_told r ≡ room_told fs out) × (after ≡ out_where_room fs out)
+  abbrev Answers : Told (List ℕ) → List ℕ → Type 0
+  Answers t after = (t ≡ room_told fs out) × (after ≡ out_where_room fs out)
 
-  no_room_lem : length out < length (all_bytes fs) → Answers (NotWritten 6) out
+  no_room_lem : length out < length (all_bytes fs) → Answers (refused 6 []) out
   no_room_lem h =
       let six : first_of (room_tests fs out) ≡ 6 = ap (λ (t : Bool). cond t 6 0) (lt-ltb (length out) (length (all_bytes fs)) h) in (
         sym (ap (λ (k : ℕ). answered (λ n. told (n ∷ [])) (λ n. refused n []) k (length (all_bytes fs))) six),
         sym (ap (λ (k : ℕ). answered (overwritten out) (λ _. out) k (all_bytes fs)) six),
       )
 
-  all_there : (size : ℕ) (bytes : List ℕ) → all_bytes fs ≡ bytes → length bytes ≡ size → size ≤ length out → left ≡ pasted 0 bytes out → Answers (Written size) left
+  all_there : (size : ℕ) (bytes : List ℕ) → all_bytes fs ≡ bytes → length bytes ≡ size → size ≤ length out → left ≡ pasted 0 bytes out → Answers (told (size ∷ [])) left
   all_there size bytes same s h w =
       let none : first_of (room_tests fs out) ≡ 0 = ap (λ (t : Bool). cond t 6 0) (le-ltb (length out) (length (all_bytes fs)) (omega (arith, ap length same))) in (
         ap (λ (n : ℕ). told (n ∷ [])) (sym s ∙ ap length (sym same)) ∙ sym (answered_yes (λ n. told (n ∷ [])) (λ n. refused n []) (length (all_bytes fs)) none),
@@ -180,7 +187,7 @@ module _ (alias e : ℕ) (m : Message) (payload out left : List ℕ) (there : m.
   unfolding frames_of all_bytes
   more_frames f = rw (ne_eqb m.mti 0x05B4 f, there) (ap (λ (l : List ℕ). l ++ to_do alias payload) (sym (frame_of_eight Start alias e)))
 
-  pub whole_answer : m.mti ≡ 0x05B4 → 13 ≤ length out → left ≡ pasted 0 (spelled_out (header_of Whole alias) 8 e) out → Answers (Written 13) left
+  pub whole_answer : m.mti ≡ 0x05B4 → 13 ≤ length out → left ≡ pasted 0 (spelled_out (header_of Whole alias) 8 e) out → Answers (told (13 ∷ [])) left
   whole_answer f h w = all_there 13 (spelled_out (header_of Whole alias) 8 e) (whole_frame f) (spelled_length (header_of Whole alias) 8 e) h w
 
   module _ (f : m.mti ≡ 0x05B4 → ⊥) where
@@ -188,40 +195,29 @@ module _ (alias e : ℕ) (m : Message) (payload out left : List ℕ) (there : m.
     more_length =
         length-append (spelled_out (header_of Start alias) 8 e) (to_do alias payload) ∙ omega (arith, spelled_length (header_of Start alias) 8 e, to_do_length alias payload)
 
-    pub more_no_room : length out < 13 * (2 + middles payload) → Answers (NotWritten 6) out
+    pub more_no_room : length out < 13 * (2 + middles payload) → Answers (refused 6 []) out
     more_no_room h = no_room_lem (omega (arith, ap length (more_frames f), more_length))
 
     pub more_answer : (header : ℕ) (first : List ℕ) → header ≡ header_of Start alias → 13 * (2 + middles payload) ≤ length out
-        → first ≡ pasted 0 (spelled_out header 8 e) out → left ≡ pasted 13 (to_do alias payload) first → Answers (Written (13 * (2 + middles payload))) left
+        → first ≡ pasted 0 (spelled_out header 8 e) out → left ≡ pasted 13 (to_do alias payload) first → Answers (told ((13 * (2 + middles payload)) ∷ [])) left
     more_answer header first g h v w =
         let start = spelled_out (header_of Start alias) 8 e in
         let started : first ≡ pasted 0 start out = v ∙ ap (λ (x : ℕ). pasted 0 (spelled_out x 8 e) out) g in
         all_there (13 * (2 + middles payload)) (start ++ to_do alias payload) (more_frames f) more_length h
         (w ∙ ap (pasted 13 (to_do alias payload)) started ∙ next 0 13 13 start (to_do alias payload) out (spelled_length (header_of Start alias) 8 e) refl (omega arith))
 
-  pub too_small : length out < 13 → Answers (NotWritten 6) out
+  pub too_small : length out < 13 → Answers (refused 6 []) out
   too_small h = go (eqb m.mti 0x05B4) refl
     where
-      go : (t : Bool) → eqb m.mti 0x05B4 ≡ t → Answers (NotWritten 6) out
+      go : (t : Bool) → eqb m.mti 0x05B4 ≡ t → Answers (refused 6 []) out
       go true f = no_room_lem (omega (arith, ap length (whole_frame (eqb-true m.mti 0x05B4 f)), spelled_length (header_of Whole alias) 8 e))
       go false f = more_no_room (eqb-false m.mti 0x05B4 f) (omega arith)
 
 -- ---- splitting
 
--- An alias of a list in bounds is one of 12 bits, or there is none.
-none_high : (l : List ℕ) (i : ℕ) → any bad_alias l ≡ false → get_or l i no_alias ≤ no_alias
-none_high [] i h = omega arith
-none_high (x ∷ xs) zero h = omega (arith, ltb-false highest_alias x (neither (bad_alias x) (any bad_alias xs) h).0)
-none_high (x ∷ xs) (suc i) h = none_high xs i (neither (bad_alias x) (any bad_alias xs) h).1
-
-pub alias_fits : (l : Aliases) (n alias : ℕ) → bad_aliases l ≡ false → alias ≡ alias_for l n → (alias ≡ 0x1000 → ⊥) → alias < 0x1000
-unfolding bad_aliases alias_for
-alias_fits l n alias h e other =
-    let lengths = (neither (not (eqb (length l.aliases) (length l.nodes))) _ h).1 in
-    let nodes = (neither (ltb most_pairs (length l.nodes)) _ lengths).1 in
-    let aliases = (neither (any bad_node l.nodes) _ nodes).1 in
-    let high = none_high l.aliases (place_in l.nodes n) (neither (any bad_alias l.aliases) _ aliases).0 in
-    omega (arith, high, e, other)
+-- An alias of a list in bounds is one of 12 bits.
+pub alias_fits : (l : Aliases) (i a : ℕ) → bad_aliases l ≡ false → Some a ≡ slice_get l.aliases i → a < 0x1000
+alias_fits l i a h e = let low : a ≤ highest_alias = subst (λ o. IfSome o (λ b. b ≤ highest_alias)) (sym e) (low_enough l i h) in omega arith
 
 module _ (l : Aliases) (m : Message) (payload out : List ℕ) where
   abbrev SplitAnswers : Told (List ℕ) → List ℕ → Type 0

@@ -1,14 +1,18 @@
 -- The code's joining state and answer, as the rules have them.
-use Rattle.std.specs.Prelude.{ℕ, zero, suc, ◌+◌, ◌≡◌, Bool, cond, ◌&&◌, List, [], ◌∷◌, ltb, length, get_or, replicate}
-use Rattle.basics.specs.Lists.{each, first_or}
-use Rattle.basics.specs.Refusals.{refuse, first_of}
+use Rattle.std.specs.Prelude.{ℕ, zero, suc, ◌≡◌, Bool, true, false, List, [], ◌∷◌, ◌++◌, get_or, replicate, Option, None, Some, Result, Ok, Err}
+use Rattle.basics.specs.declared.Refusal.{Refusal}
+use Rattle.basics.specs.Lists.{any, each, first_or}
+use Rattle.basics.specs.Refusals.{first_of, refusal_number}
 use Rattle.can_rules.specs.declared.Frame.{Frame}
 use Rattle.can_rules.specs.declared.Part.{Part}
-use Rattle.can_rules.specs.Frames.{part_of, bytes_in}
-use Rattle.can_rules.specs.Joining.{Begun, begun, most_payload, of_sender, by, is_other, sender_tests, Handed, report, Outcome, settled}
+use Rattle.can_rules.specs.Frames.{bytes_in}
+use Rattle.can_rules.specs.Joining.{Begun, begun, most_payload, sender_tests, Handed, report, Outcome, settled}
 use Rattle.can.specs.declared.Gathered.{Gathered}
 use Rattle.can.specs.declared.Joining.{Joining}
 use Rattle.can.specs.declared.Joined.{Joined}
+use Rattle.can.specs.declared.parts.Report.{Report}
+use Rattle.can.specs.declared.state.Place.{Place}
+use Rattle.can.specs.declared.state.Place.TheVariants.{First, Second}
 
 -- The bytes in use; a length past the 256 has more of them than there is room for, and so is seen.
 abbrev pub payload_of : Gathered → List ℕ
@@ -24,6 +28,13 @@ gathered_at j (suc i) = j.second
 -- The first `count` of the places: what stands in the others is no part of the state.
 unfoldable pub state_of : Joining → List Begun
 state_of j = each j.count (λ i. begun_of (gathered_at j i))
+
+-- A sender's message with no bytes, and the state in which nobody has begun one: all zeros.
+abbrev pub empty_of : ℕ → ℕ → Gathered
+empty_of sender event = record { sender = sender; event = event; length = 0; payload = replicate most_payload 0 }
+
+abbrev pub nothing_begun : Joining
+nothing_begun = record { count = 0; first = empty_of 0 0; second = empty_of 0 0 }
 
 -- ---- answers
 
@@ -56,23 +67,34 @@ NoPayloadIsZero r = r.message.length ≡ 0 → r.message.payload ≡ replicate m
 
 -- ---- what the parts of the code work on
 
--- A place, where it is in use.
-abbrev pub in_use : Bool → Gathered → List Begun
-in_use used g = cond used (begun_of g ∷ []) []
+-- What a place holds with more bytes.
+abbrev pub with_more : Gathered → List ℕ → Begun
+with_more g bytes = begun g.sender g.event (payload_of g ++ bytes)
 
--- Refusal 18 by how many bytes are to come.
-abbrev pub overflowing : ℕ → ℕ → Begun → Bool
-overflowing n more b = of_sender n b && ltb most_payload (length b.so_far + more)
+abbrev pub place_number : Place → ℕ
+place_number First = 0
+place_number Second = 1
 
--- What a sender has begun; nothing from nobody where it has begun nothing.
-abbrev pub first_by : ℕ → List Begun → Begun
-first_by n s = first_or (begun 0 0 []) (λ b. b) (by n s)
+-- The one of a list that passes a test stands at a place.
+pub data Only {A : Type 0} (test : A → Bool) : List A → ℕ → Type 0 where
+  here : {x : A} {xs : List A} → test x ≡ true → any test xs ≡ false → Only test (x ∷ xs) 0
+  later : {x : A} {xs : List A} {i : ℕ} → test x ≡ false → Only test xs i → Only test (x ∷ xs) (suc i)
 
--- A frame of a known part from a sender, and any frame, in a state in bounds.
+-- What a frame is answered with, and the joining state that it leaves.
+abbrev pub handed_by : Option Report → Handed
+handed_by None = silence
+handed_by (Some r) = handed_in r.mti r.message
+
+abbrev pub seen_left : Result (Option Report) Refusal → Joining → Seen
+seen_left (Ok r) j = record { refusal = 0; handed = handed_by r; next = state_of j }
+seen_left (Err r) j = record { refusal = refusal_number r; handed = silence; next = state_of j }
+
+-- What else is promised of them: what a refusal but for 18 keeps, and that a report without payload has none behind it.
+abbrev pub Left : Joining → Result (Option Report) Refusal → Joining → Type 0
+Left old (Ok None) new = Unit {0}
+Left old (Ok (Some r)) new = r.message.length ≡ 0 → r.message.payload ≡ replicate most_payload 0
+Left old (Err r) new = (refusal_number r ≡ 18 → ⊥) → new ≡ old
+
+-- A frame of a known part from a sender, in a state in bounds.
 abbrev pub part_seen : Joining → ℕ → Frame → Part → Seen
 part_seen j n f part = seen_of (settled (state_of j) n (bytes_in f) (first_of (sender_tests (state_of j) n part f.length (bytes_in f))) part)
-
-unfoldable pub frame_seen : Joining → ℕ → Frame → Seen
-frame_seen j n f =
-    seen_of (settled (state_of j) n (bytes_in f)
-    (first_of (refuse 29 (is_other (part_of f)) ∷ sender_tests (state_of j) n (part_of f) f.length (bytes_in f))) (part_of f))

@@ -8,9 +8,11 @@ mod state;
 pub use parts::join;
 pub use splitting::split;
 
+// `hrislanoth_join` takes and gives these three as they lie in memory: so a length, a count and numbers stand where a slice, a list and a Result would.
+
 // What was gathered of a message: its sender, its event, and the first `length` bytes of its payload.
 #[repr(C)]
-#[derive(Clone, Copy)]
+#[derive(Clone, Copy, PartialEq, Eq)]
 pub struct Gathered {
     pub sender: u64,
     pub event: u64,
@@ -20,7 +22,7 @@ pub struct Gathered {
 
 // The joining state: what up to two senders have begun, the first `count` of the two.
 #[repr(C)]
-#[derive(Clone, Copy)]
+#[derive(Clone, Copy, PartialEq, Eq)]
 pub struct Joining {
     pub count: usize,
     pub first: Gathered,
@@ -29,7 +31,7 @@ pub struct Joining {
 
 // The refusal or 0; the message that is handed out, with MTI 0 where there is none; and the next joining state.
 #[repr(C)]
-#[derive(Clone, Copy)]
+#[derive(Clone, Copy, PartialEq, Eq)]
 pub struct Joined {
     pub refusal: u8,
     pub mti: u16,

@@ -1,187 +1,127 @@
 // The joining state: what is asked of it, and what becomes of it.
-ghost use Rattle.std.specs.Prelude.{◌≡◌, true, false, not, ◌&&◌, [], ◌∷◌, ◌++◌, map, ◌+◌, ◌≤◌, ◌<◌, eqb, ltb, length, take, replicate};
-ghost use Rattle.basics.specs.Lists.{any};
-ghost use Rattle.can_rules.specs.Joining.{begun, bad_joining, has_begun, dropped as dropped_of, longer as longer_of};
-ghost use Rattle.can.specs.States.{payload_of, begun_of, state_of, in_use, overflowing, first_by};
+ghost use Rattle.std.specs.Prelude.{◌≡◌, ◌+◌, ◌≤◌, ◌<◌, false, [], ◌∷◌, ◌++◌, length, replicate, remove, slice_set, MatchOption};
+ghost use Rattle.can_rules.specs.Joining.{begun, bad_joining, has_begun, of_sender};
+ghost use Rattle.can.specs.States.{begun_of, with_more, gathered_at, state_of, place_number, empty_of, nothing_begun, Only};
 
 use crate::{Gathered, Joining};
 
-// Refusal 7 of the joining state.
-pub(crate) fn out_of_bounds(j: Joining) -> bool
-    ensures { result ≡ bad_joining (state_of j) }
-{
-    if 2 < j.count {
-        return true;
-    }
-    if too_long(0 < j.count, j.first.length) {
-        return true;
-    }
-    if too_long(1 < j.count, j.second.length) {
-        return true;
-    }
-    is_of(1 < j.count, j.second.sender, j.first.sender)
+// A place of the two for what is begun.
+#[derive(Clone, Copy)]
+pub(crate) enum Place {
+    First,
+    Second,
 }
 
-fn too_long(used: bool, length: usize) -> bool
-    ensures { result ≡ (used && ltb 256 length) }
-{
-    if used {
-        return 256 < length;
-    }
-    false
-}
-
-// Whether a place is in use and its sender's.
-fn is_of(used: bool, sender: u64, n: u64) -> bool
-    ensures { result ≡ (used && eqb sender n) }
-{
-    if used {
-        return sender == n;
-    }
-    false
-}
-
-pub(crate) fn has_begun(j: Joining, n: u64) -> bool
-    requires { j.count ≤ 2 }
-    ensures { result ≡ has_begun n (state_of j) }
-{
-    if is_of(0 < j.count, j.first.sender, n) {
-        return true;
-    }
-    is_of(1 < j.count, j.second.sender, n)
-}
-
-// Whether a sender's payload would pass 256 bytes by so many more.
-pub(crate) fn overflows(j: Joining, n: u64, more: usize) -> bool
-    requires { (j.count ≤ 2) × (more ≤ 8) }
-    ensures { result ≡ any (overflowing n more) (state_of j) }
-{
-    if overflows_at(0 < j.count, j.first.sender, j.first.length, n, more) {
-        return true;
-    }
-    overflows_at(1 < j.count, j.second.sender, j.second.length, n, more)
-}
-
-fn overflows_at(used: bool, sender: u64, length: usize, n: u64, more: usize) -> bool
-    requires { more ≤ 8 }
-    ensures { result ≡ (used && (eqb sender n && ltb 256 (length + more))) }
-{
-    if is_of(used, sender, n) {
-        return 256 - more < length;
-    }
-    false
-}
-
-// A sender's unfinished message is dropped.
-pub(crate) fn dropped(j: Joining, n: u64) -> Joining
-    requires { j.count ≤ 2 }
-    ensures { state_of result ≡ dropped_of n (state_of j) }
-{
-    let mut k = j;
-    if is_of(0 < j.count, j.first.sender, n) {
-        if is_of(1 < j.count, j.second.sender, n) {
-            k.count = 0;
-            return k;
+impl Joining {
+    // No sender has begun a message.
+    pub fn new() -> Joining
+        ensures state_value { state_of result ≡ [] }
+        ensures zeros { result ≡ nothing_begun }
+    {
+        Joining {
+            count: 0,
+            first: Gathered::empty(0, 0),
+            second: Gathered::empty(0, 0),
         }
-        let second = j.second;
-        k.first = second;
-        k.count = j.count - 1;
-        return k;
     }
-    if is_of(1 < j.count, j.second.sender, n) {
-        k.count = 1;
+
+    pub(crate) fn out_of_bounds(&self) -> bool
+        ensures { result ≡ bad_joining (state_of self.now) }
+    {
+        match self.count {
+            0 => false,
+            1 => 256 < self.first.length,
+            2 => {
+                256 < self.first.length
+                    || 256 < self.second.length
+                    || self.second.sender == self.first.sender
+            }
+            _ => true,
+        }
     }
-    k
+
+    // Where what a sender has begun stands.
+    pub(crate) fn place_of(&self, sender: u64) -> Option<Place>
+        requires { bad_joining (state_of self.now) ≡ false }
+        ensures { MatchOption result (has_begun sender (state_of self.now) ≡ false) (λ p. Only (of_sender sender) (state_of self.now) (place_number p)) }
+    {
+        if 0 < self.count && self.first.sender == sender {
+            Some(Place::First)
+        } else if 1 < self.count && self.second.sender == sender {
+            Some(Place::Second)
+        } else {
+            None
+        }
+    }
+
+    pub(crate) fn at(&self, place: Place) -> &Gathered
+        ensures { result.now ≡ gathered_at self.now (place_number place) }
+    {
+        match place {
+            Place::First => &self.first,
+            Place::Second => &self.second,
+        }
+    }
+
+    pub(crate) fn remove(&mut self, place: Place)
+        requires { (place_number place < self.old.count) × (self.old.count ≤ 2) }
+        ensures { state_of self.new ≡ remove (state_of self.old) (place_number place) }
+    {
+        match place {
+            Place::First => self.first = self.second,
+            Place::Second => {}
+        }
+        self.count -= 1;
+    }
+
+    // A new message is begun, after the others.
+    pub(crate) fn begin(&mut self, sender: u64, event: u64)
+        requires { self.old.count < 2 }
+        ensures { state_of self.new ≡ state_of self.old ++ (begun sender event [] ∷ []) }
+    {
+        let new = Gathered::empty(sender, event);
+        if self.count == 0 {
+            self.first = new;
+        } else {
+            self.second = new;
+        }
+        self.count += 1;
+    }
+
+    // What stands at a place grows by a frame's bytes.
+    pub(crate) fn grow(&mut self, place: Place, bytes: &[u8])
+        requires place_in_use { (place_number place < self.old.count) × (self.old.count ≤ 2) }
+        requires room { (gathered_at self.old (place_number place)).length + length bytes.now ≤ 256 }
+        ensures { state_of self.new ≡ slice_set (state_of self.old) (place_number place) (with_more (gathered_at self.old (place_number place)) bytes.now) }
+    {
+        match place {
+            Place::First => self.first.push(bytes),
+            Place::Second => self.second.push(bytes),
+        }
+    }
 }
 
-// A new message is begun, after the others.
-pub(crate) fn with_begun(j: Joining, n: u64, event: u64) -> Joining
-    requires { j.count < 2 }
-    ensures { state_of result ≡ state_of j ++ (begun n event [] ∷ []) }
-{
-    let mut k = j;
-    k.count = j.count + 1;
-    let new = empty(n, event);
-    if j.count == 0 {
-        k.first = new;
-        return k;
+impl Gathered {
+    pub(crate) fn empty(sender: u64, event: u64) -> Gathered
+        ensures result_value { begun_of result ≡ begun sender event [] }
+        ensures payload_value { result.payload ≡ replicate 256 0 }
+        ensures all { result ≡ empty_of sender event }
+    {
+        Gathered {
+            sender,
+            event,
+            length: 0,
+            payload: [0; 256],
+        }
     }
-    k.second = new;
-    k
-}
 
-pub(crate) fn empty(n: u64, event: u64) -> Gathered
-    ensures result_value { begun_of result ≡ begun n event [] }
-    ensures payload_value { result.payload ≡ replicate 256 0 }
-{
-    Gathered {
-        sender: n,
-        event,
-        length: 0,
-        payload: [0; 256],
-    }
-}
-
-// A sender's payload grows by the frame's bytes.
-pub(crate) fn grown(j: Joining, n: u64, bytes: [u8; 8], size: usize) -> Joining
-    requires count_bound { (j.count ≤ 2) × (size ≤ 8) }
-    requires j_value { any (overflowing n size) (state_of j) ≡ false }
-    ensures { state_of result ≡ map (longer_of n (take size bytes)) (state_of j) }
-{
-    let old_first = j.first;
-    let old_second = j.second;
-    let first = grown_at(0 < j.count, old_first, n, bytes, size);
-    let second = grown_at(1 < j.count, old_second, n, bytes, size);
-    Joining {
-        count: j.count,
-        first,
-        second,
-    }
-}
-
-fn grown_at(used: bool, g: Gathered, n: u64, bytes: [u8; 8], size: usize) -> Gathered
-    requires { (size ≤ 8) × (any (overflowing n size) (in_use used g) ≡ false) }
-    ensures { in_use used result ≡ map (longer_of n (take size bytes)) (in_use used g) }
-{
-    if is_of(used, g.sender, n) {
-        return longer(g, bytes, size);
-    }
-    g
-}
-
-// What a sender has begun, with the frame's bytes.
-pub(crate) fn finished(j: Joining, n: u64, bytes: [u8; 8], size: usize) -> Gathered
-    requires count_bound { (j.count ≤ 2) × (size ≤ 8) }
-    requires j_value { has_begun n (state_of j) ≡ true }
-    requires j_value_2 { any (overflowing n size) (state_of j) ≡ false }
-    ensures result_value { begun_of result ≡ longer_of n (take size bytes) (first_by n (state_of j)) }
-    ensures size_le_length { size ≤ result.length }
-{
-    if is_of(0 < j.count, j.first.sender, n) {
-        let first = j.first;
-        return longer(first, bytes, size);
-    }
-    let second = j.second;
-    longer(second, bytes, size)
-}
-
-// A frame's bytes at the end of a payload.
-fn longer(g: Gathered, bytes: [u8; 8], size: usize) -> Gathered
-    requires { (size ≤ 8) × (g.length + size ≤ 256) }
-    ensures result_value { begun_of result ≡ begun g.sender g.event (payload_of g ++ take size bytes) }
-    ensures size_le_length { size ≤ result.length }
-{
-    let at = g.length;
-    let mut payload = g.payload;
-    let mut i = 0;
-    while i < size {
-        payload[at + i] = bytes[i];
-        i += 1;
-    }
-    Gathered {
-        sender: g.sender,
-        event: g.event,
-        length: at + size,
-        payload,
+    pub(crate) fn push(&mut self, bytes: &[u8])
+        requires { self.old.length + length bytes.now ≤ 256 }
+        ensures grown { begun_of self.new ≡ with_more self.old bytes.now }
+        ensures longer { self.new.length ≡ self.old.length + length bytes.now }
+    {
+        let end = self.length + bytes.len();
+        self.payload[self.length..end].copy_from_slice(bytes);
+        self.length = end;
     }
 }

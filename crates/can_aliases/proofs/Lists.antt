@@ -1,67 +1,35 @@
--- A list from a place on: whether any passes, and where a number stands.
-use Prim.Native.Nat.{ℕ, zero, suc, ◌+◌, ◌≤◌, ◌<◌}
-use mathlib.Core.Path.{◌≡◌, refl, sym, ap, ◌∙◌}
-use mathlib.Core.Bool.{Bool, true, false, cond, ◌||◌}
-use mathlib.Core.List.{List, [], ◌∷◌}
-use native.Mathlib.Nat.{not-suc-le-zero, le_of_suc-le-suc, add-zero}
-use native.Mathlib.Numerals.{add-one}
-use native.Mathlib.Omega.{arith}
-use borrow.Author.Tests.{eq-eqb, ne_eqb, lt-ltb}
-use lib.Dec.{eqb, ltb, leb-suc-suc}
-use lib.ListN.{length, drop, get_or, drop_of_length-le}
-use lib.Seq.{drop-cons}
+-- Where a number stands in a list, and what stands there.
+use Rattle.std.proofs.Common.{◌≡◌, ◌≢◌, ℕ, zero, suc, ◌+◌, ◌≤◌, eqb, ltb, cond, length, List, [], ◌∷◌, Some, None, sym, ap, ◌∙◌, refl, arith, position, slice_get, unwrap_or, IfSome, Bool, false}
+use Rattle.std.specs.List.{position_or_len}
+use Rattle.std.proofs.lemmas.Bool.Decides.{nat_tests}
+use Rattle.std.proofs.lemmas.List.Recursion.{is_position_or_len}
+use Rattle.std.proofs.lemmas.List.Sums.{prefix_len-le-length}
 use Rattle.basics.specs.Lists.{any}
-use Rattle.can_rules.specs.Aliases.{place_in}
+use Rattle.basics.proofs.Bools.{neither}
+use Rattle.message.specs.Messages.{bad_node}
+use Rattle.can_rules.specs.Aliases.{Aliases, nobody, highest_alias, bad_alias, bad_aliases, place_in}
+use Rattle.can_rules.proofs.Aliases.{good_list_lem}
 
-pub from_place : (l : List ℕ) (i : ℕ) → i < length l → drop i l ≡ get_or l i 0 ∷ drop (i + 1) l
-from_place l i h = drop-cons l i 0 h ∙ ap (λ (k : ℕ). get_or l i 0 ∷ drop k l) (sym (add-one i))
-
--- Inside a list it does not matter what stands past its end.
-pub inside : (l : List ℕ) (i d e : ℕ) → i < length l → get_or l i d ≡ get_or l i e
-inside [] i d e h = absurd (not-suc-le-zero h)
-inside (x ∷ xs) zero d e h = refl
-inside (x ∷ xs) (suc i) d e h = inside xs i d e (le_of_suc-le-suc h)
-
--- ---- whether any passes
-
-module _ (test : ℕ → Bool) (l : List ℕ) (i : ℕ) where
-  any_from : i < length l → any test (drop i l) ≡ (test (get_or l i 0) || any test (drop (i + 1) l))
-  any_from h = ap (any test) (from_place l i h)
-
-  pub any_here : i < length l → any test l ≡ any test (drop i l) → test (get_or l i 0) ≡ true → true ≡ any test l
-  any_here h so e = sym (so ∙ any_from h ∙ ap (λ (t : Bool). t || any test (drop (i + 1) l)) e)
-
-  pub any_further : i < length l → any test l ≡ any test (drop i l) → test (get_or l i 0) ≡ false → any test l ≡ any test (drop (i + 1) l)
-  any_further h so e = so ∙ any_from h ∙ ap (λ (t : Bool). t || any test (drop (i + 1) l)) e
-
-  pub any_nowhere : length l ≤ i → any test l ≡ any test (drop i l) → false ≡ any test l
-  any_nowhere h so = sym (so ∙ ap (any test) (drop_of_length-le l h))
-
--- ---- where a number stands
-
-module _ (l : List ℕ) (x i : ℕ) where
-  place_from : i < length l → place_in (drop i l) x ≡ cond (eqb (get_or l i 0) x) 0 (suc (place_in (drop (i + 1) l) x))
-  unfolding place_in
-  place_from h = ap (λ (r : List ℕ). place_in r x) (from_place l i h)
-
-  pub place_here : i < length l → place_in l x ≡ i + place_in (drop i l) x → get_or l i 0 ≡ x → i ≡ place_in l x
-  place_here h so e = sym (so ∙ ap (λ (k : ℕ). i + k) (place_from h ∙ ap (λ (t : Bool). cond t 0 (suc (place_in (drop (i + 1) l) x))) (eq-eqb (get_or l i 0) x e)) ∙ add-zero i)
-
-  pub place_further : i < length l → place_in l x ≡ i + place_in (drop i l) x → (get_or l i 0 ≡ x → ⊥) → place_in l x ≡ i + 1 + place_in (drop (i + 1) l) x
-  place_further h so e =
-      so ∙ ap (λ (k : ℕ). i + k) (place_from h ∙ ap (λ (t : Bool). cond t 0 (suc (place_in (drop (i + 1) l) x))) (ne_eqb (get_or l i 0) x e)) ∙ omega arith
-
-  pub place_nowhere : length l ≤ i → place_in l x ≡ i + place_in (drop i l) x → i ≡ place_in l x
-  unfolding place_in
-  place_nowhere h so = sym (so ∙ ap (λ (r : List ℕ). i + place_in r x) (drop_of_length-le l h) ∙ add-zero i)
-
--- A number stands in a list where its place is inside.
-pub stands_inside : (l : List ℕ) (x : ℕ) → ltb (place_in l x) (length l) ≡ any (λ y. eqb y x) l
+as_searched : (l : List ℕ) (x : ℕ) → place_in l x ≡ position_or_len (λ y. eqb y x) l
 unfolding place_in
-stands_inside [] x = refl
-stands_inside (y ∷ ys) x = go (eqb y x) (stands_inside ys x)
-  where
-    go : (t : Bool) → ltb (place_in ys x) (length ys) ≡ any (λ z. eqb z x) ys
-        → ltb (cond t 0 (suc (place_in ys x))) (suc (length ys)) ≡ (t || any (λ z. eqb z x) ys)
-    go true e = lt-ltb 0 (suc (length ys)) (omega arith)
-    go false e = leb-suc-suc (suc (place_in ys x)) (length ys) ∙ e
+as_searched l x = is_position_or_len (λ l. place_in l x) (λ y. eqb y x) refl (λ y ys. let e : suc (place_in ys x) ≡ 1 + place_in ys x = omega arith in ap (λ k. cond (eqb y x) 0 k) e) l
+
+found_at : (i n : ℕ) → i ≤ n → unwrap_or (cond (ltb i n) (Some i) None) n ≡ i
+found_at i n h = grind (arith, nat_tests)
+
+-- The place, or the length where there is none, as the library's search gives it.
+pub place_found : (l : List ℕ) (x : ℕ) → unwrap_or (position (λ y. eqb y x) l) (length l) ≡ place_in l x
+place_found l x = found_at _ _ (prefix_len-le-length _ l) ∙ sym (as_searched l x)
+
+-- ---- what stands at a place of a list in bounds
+
+from_good : (test : ℕ → Bool) (P : ℕ → Type 0) → ((x : ℕ) → test x ≡ false → P x) → (l : List ℕ) (i : ℕ) → any test l ≡ false → IfSome (slice_get l i) P
+from_good test P so [] i h = tt
+from_good test P so (x ∷ xs) zero h = so x (neither (test x) (any test xs) h).0
+from_good test P so (x ∷ xs) (suc i) h = from_good test P so xs i (neither (test x) (any test xs) h).1
+
+pub somebody : (l : Aliases) (i : ℕ) → bad_aliases l ≡ false → IfSome (slice_get l.nodes i) (λ n. n ≢ nobody)
+somebody l i h = from_good bad_node (λ n. n ≢ nobody) (λ n e. grind (arith, nat_tests)) l.nodes i (good_list_lem l h).nodes_ok
+
+pub low_enough : (l : Aliases) (i : ℕ) → bad_aliases l ≡ false → IfSome (slice_get l.aliases i) (λ a. a ≤ highest_alias)
+low_enough l i h = from_good bad_alias (λ a. a ≤ highest_alias) (λ a e. grind (arith, nat_tests)) l.aliases i (good_list_lem l h).aliases_ok

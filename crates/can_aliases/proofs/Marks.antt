@@ -1,19 +1,18 @@
 -- Two marks at each place, one for aliases and one for Node IDs; what is left of a list once all from a place on are seen to be good.
 use Prim.Native.Nat.{ℕ, zero, suc, ◌+◌, ◌-◌, ◌*◌, ◌/◌, ◌%◌, ◌≤◌, ◌<◌}
 use mathlib.Core.Path.{◌≡◌, refl, sym, ap, ap₂, subst, subst₂, ◌∙◌}
-use mathlib.Core.Bool.{Bool, true, false, ◌&&◌, ◌||◌, or-true}
+use mathlib.Core.Bool.{Bool, true, false, ◌||◌, or-true}
 use mathlib.Core.List.{List, [], ◌∷◌, map}
 use native.Mathlib.Omega.{arith}
-use borrow.Author.Tests.{eqb-true, eqb-false, eq-eqb, leb-false, ltb-false}
-use lib.Dec.{eqb, leb}
+use borrow.Author.Tests.{eqb-true, eqb-false, eq-eqb, le-ltb}
+use lib.Dec.{eqb}
 use lib.ListN.{length, drop, get_or, set, replicate, length-map, get_or-map}
 use lib.Seq.{drop-length, get_or-set_other}
 use Rattle.basics.specs.Lists.{any}
-use Rattle.basics.proofs.Bools.{both, neither}
 use Rattle.message.specs.Messages.{bad_node}
 use Rattle.can_rules.specs.Aliases.{highest_alias, bad_alias, repeats}
 use Rattle.can_aliases.specs.Parts.{any_bad}
-use Rattle.can_aliases.proofs.Repeats.{among, low, Met, met_none, new, met_more, before, met_twice, met_one}
+use Rattle.can_aliases.proofs.Repeats.{among, low, Met, met_none, new, met_more, before, met_twice}
 
 -- ---- one of the two marks
 
@@ -61,11 +60,11 @@ good_none aliases nodes marks i e clear a n =
       marks_met = λ k h. absurd (let z = clear k in omega arith);
     })
 
-module _ {aliases nodes marks : List ℕ} (g : Good aliases nodes marks) (alias node : ℕ) (bad : (bad_alias alias || bad_node node) ≡ false) where
+module _ {aliases nodes marks : List ℕ} (g : Good aliases nodes marks) (alias node : ℕ) (few : alias ≤ highest_alias) (named : bad_node node ≡ false) where
   -- An alias that is new sets its mark; those of Node IDs stay.
   module _ (unset : get_or marks (low alias) 0 % 2 ≡ 1 → ⊥) where
     new_alias : among aliases alias ≡ false
-    new_alias = new g.aliases_met alias false (λ _. get_or-map (λ v. v % 2) marks (low alias) 0 ∙ omega (arith, unset)) refl
+    new_alias = new g.aliases_met alias (λ some. absurd (some (get_or-map (λ v. v % 2) marks (low alias) 0 ∙ omega (arith, unset))))
 
     abbrev once : List ℕ
     once = set marks (low alias) (get_or marks (low alias) 0 / 2 % 2 * 2 + 1)
@@ -83,7 +82,7 @@ module _ {aliases nodes marks : List ℕ} (g : Good aliases nodes marks) (alias 
     own_mark k h = go (eqb k (low alias)) refl
       where
         own : low alias ≡ alias
-        own = let few = ltb-false highest_alias alias (neither (bad_alias alias) (bad_node node) bad).0 in omega arith
+        own = omega arith
 
         go : (t : Bool) → eqb k (low alias) ≡ t → among (alias ∷ aliases) k ≡ true
         go true e = ap (λ (t : Bool). t || among aliases k) (eq-eqb alias k (sym own ∙ sym (eqb-true k (low alias) e)))
@@ -92,13 +91,12 @@ module _ {aliases nodes marks : List ℕ} (g : Good aliases nodes marks) (alias 
             ap (λ (t : Bool). eqb alias k || t) (g.marks_met k (ap (λ (v : ℕ). v % 2) (sym (get_or-set_other marks (low alias) k _ 0 n)) ∙ h)) ∙ or-true (eqb alias k)
 
     -- And so does a Node ID.
-    module _ (asked₂ : (leb 2 (get_or once (low node) 0) && among nodes node) ≡ false) where
+    module _ (asked : 2 ≤ get_or once (low node) 0 → among nodes node ≡ false) where
       nodes_once : Met nodes (map (λ v. v / 2 % 2) once)
       nodes_once = subst (Met nodes) (sym nodes_stay) g.nodes_met
 
       new_node : among nodes node ≡ false
-      new_node = new nodes_once node (leb 2 (get_or once (low node) 0))
-          (λ e. get_or-map (λ v. v / 2 % 2) once (low node) 0 ∙ (let few = leb-false 2 (get_or once (low node) 0) e in omega (arith, few))) asked₂
+      new_node = new nodes_once node (λ some. asked (let e = get_or-map (λ v. v / 2 % 2) once (low node) 0 in omega arith))
 
       abbrev twice : List ℕ
       twice = set once (low node) (get_or once (low node) 0 % 2 + 2)
@@ -114,20 +112,14 @@ module _ {aliases nodes marks : List ℕ} (g : Good aliases nodes marks) (alias 
         nodes_met =
             subst (Met (node ∷ nodes)) (sym (map_set (λ v. v / 2 % 2) once (low node) (get_or once (low node) 0 % 2 + 2)))
             (met_more nodes_once node new_node ((get_or once (low node) 0 % 2 + 2) / 2 % 2) (λ z. omega (arith, z)));
-        good_nodes = ap₂ (λ (s t : Bool). s || t) (neither (bad_alias alias) (bad_node node) bad).1 g.good_nodes;
-        good_aliases = ap₂ (λ (s t : Bool). s || t) (neither (bad_alias alias) (bad_node node) bad).0 g.good_aliases;
+        good_nodes = ap₂ (λ (s t : Bool). s || t) named g.good_nodes;
+        good_aliases = ap₂ (λ (s t : Bool). s || t) (le-ltb highest_alias alias few) g.good_aliases;
         marks_met = λ k h. own_mark k (sym (same_mark k) ∙ h);
       }
 
 -- ---- what is found
 
 module _ (aliases nodes : List ℕ) where
-  first_of : (a b c d : Bool) → a ≡ true → true ≡ (a || (b || (c || d)))
-  first_of a b c d e = sym (ap (λ (t : Bool). t || (b || (c || d))) e)
-
-  second_of : (a b c d : Bool) → b ≡ true → true ≡ (a || (b || (c || d)))
-  second_of a b c d e = sym (ap (λ (t : Bool). a || (t || (c || d))) e ∙ or-true a)
-
   third_of : (a b c d : Bool) → c ≡ true → true ≡ (a || (b || (c || d)))
   third_of a b c d e = sym (ap (λ (t : Bool). a || (b || (t || d))) e ∙ ap (λ (t : Bool). a || t) (or-true b) ∙ or-true a)
 
@@ -135,29 +127,16 @@ module _ (aliases nodes : List ℕ) where
   fourth_of a b c d e = sym (ap (λ (t : Bool). a || (b || (c || t))) e ∙ ap (λ (t : Bool). a || (b || t)) (or-true c) ∙ ap (λ (t : Bool). a || t) (or-true b) ∙ or-true a)
 
   module _ (i : ℕ) (h : 0 < i) (a : i ≤ length aliases) (n : i ≤ length nodes) where
-    pub bad_one : (bad_alias (get_or aliases (i - 1) 0) || bad_node (get_or nodes (i - 1) 0)) ≡ true → true ≡ any_bad aliases nodes
-    bad_one e = go (bad_alias (get_or aliases (i - 1) 0)) refl e
-      where
-        go : (t : Bool) → bad_alias (get_or aliases (i - 1) 0) ≡ t → (t || bad_node (get_or nodes (i - 1) 0)) ≡ true → true ≡ any_bad aliases nodes
-        go true f e = second_of (any bad_node nodes) (any bad_alias aliases) (repeats aliases) (repeats nodes) (met_one aliases i h a bad_alias f)
-        go false f e = first_of (any bad_node nodes) (any bad_alias aliases) (repeats aliases) (repeats nodes) (met_one nodes i h n bad_node e)
-
-    pub alias_twice : (marks : List ℕ) → Good (drop i aliases) (drop i nodes) marks → (bad_alias (get_or aliases (i - 1) 0) || bad_node (get_or nodes (i - 1) 0)) ≡ false
-        → get_or marks (low (get_or aliases (i - 1) 0)) 0 % 2 ≡ 1 → true ≡ any_bad aliases nodes
-    alias_twice marks g bad e =
+    pub alias_twice : (marks : List ℕ) → Good (drop i aliases) (drop i nodes) marks → get_or aliases (i - 1) 0 ≤ highest_alias → get_or marks (low (get_or aliases (i - 1) 0)) 0 % 2 ≡ 1
+        → true ≡ any_bad aliases nodes
+    alias_twice marks g few e =
         let alias = get_or aliases (i - 1) 0 in
-        let few = ltb-false highest_alias alias (neither (bad_alias alias) (bad_node (get_or nodes (i - 1) 0)) bad).0 in
         let own : low alias ≡ alias = omega arith in
         third_of (any bad_node nodes) (any bad_alias aliases) (repeats aliases) (repeats nodes)
         (met_twice aliases i h a (ap (among (drop i aliases)) (sym own) ∙ g.marks_met (low alias) e))
 
-    pub node_twice : (met : Bool) → (met && among (drop i nodes) (get_or nodes (i - 1) 0)) ≡ true → true ≡ any_bad aliases nodes
-    node_twice met e = fourth_of (any bad_node nodes) (any bad_alias aliases) (repeats aliases) (repeats nodes) (met_twice nodes i h n (both met _ e).1)
+    pub node_twice : among (drop i nodes) (get_or nodes (i - 1) 0) ≡ true → true ≡ any_bad aliases nodes
+    node_twice e = fourth_of (any bad_node nodes) (any bad_alias aliases) (repeats aliases) (repeats nodes) (met_twice nodes i h n e)
 
     pub good_before : (marks : List ℕ) → Good (get_or aliases (i - 1) 0 ∷ drop i aliases) (get_or nodes (i - 1) 0 ∷ drop i nodes) marks → Good (drop (i - 1) aliases) (drop (i - 1) nodes) marks
     good_before marks g = subst₂ (λ (x y : List ℕ). Good x y marks) (before aliases i h a) (before nodes i h n) g
-
-  pub none_bad : (i : ℕ) (marks : List ℕ) → i ≡ 0 → Good (drop i aliases) (drop i nodes) marks → false ≡ any_bad aliases nodes
-  none_bad i marks e g =
-      let all : Good aliases nodes marks = subst (λ (k : ℕ). Good (drop k aliases) (drop k nodes) marks) e g in
-      sym (ap₂ (λ (s t : Bool). s || (t || (repeats aliases || repeats nodes))) all.good_nodes all.good_aliases ∙ ap₂ (λ (s t : Bool). s || t) all.aliases_met.once all.nodes_met.once)

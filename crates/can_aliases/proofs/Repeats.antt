@@ -1,17 +1,17 @@
 -- A number that stands twice, looked for from the end of a list on, with a mark for the low bits of each number that was met.
 use Prim.Native.Nat.{ℕ, zero, suc, ◌-◌, ◌%◌, ◌≤◌, ◌<◌}
 use mathlib.Core.Path.{◌≡◌, refl, sym, ap, ap₂, ◌∙◌}
-use mathlib.Core.Bool.{Bool, true, false, ◌&&◌, ◌||◌, or-true, false≢true}
+use mathlib.Core.Bool.{Bool, true, false, ◌||◌, or-true, false≢true}
 use mathlib.Core.List.{List, [], ◌∷◌}
 use native.Mathlib.Nat.{mod-lt}
 use native.Mathlib.Omega.{arith}
 use borrow.Author.Tests.{eqb-true, eqb-false}
-use lib.Dec.{eqb, ltb, lit<}
+use lib.Dec.{eqb, lit<}
 use lib.ListN.{length, take, drop, get_or, set, length-drop, length-set}
 use lib.Seq.{drop-cons, take_all, get_or-set_same, get_or-set_other}
+use Rattle.std.specs.List.{list_any}
 use Rattle.basics.specs.Lists.{any}
-use Rattle.can_rules.specs.Aliases.{repeats, place_in}
-use Rattle.can_aliases.proofs.Lists.{stands_inside}
+use Rattle.can_rules.specs.Aliases.{repeats}
 
 -- Whether a number was met.
 abbrev pub among : List ℕ → ℕ → Bool
@@ -32,12 +32,11 @@ met_none marks e = (record { once = refl; marked = λ x h. absurd (false≢true 
 -- One more is met that is none of those that were: its mark is set, whatever it was.
 module _ {met marks : List ℕ} (m : Met met marks) (x : ℕ) where
   -- It is none of them where its mark is not set, and where it was looked for.
-  pub new : (asked : Bool) → (asked ≡ false → get_or marks (low x) 0 ≡ 0) → (asked && among met x) ≡ false → among met x ≡ false
-  new true f e = e
-  new false f e = go (among met x) refl
+  pub new : ((get_or marks (low x) 0 ≡ 0 → ⊥) → among met x ≡ false) → among met x ≡ false
+  new asked = go (among met x) refl
     where
       go : (t : Bool) → among met x ≡ t → t ≡ false
-      go true h = absurd (m.marked x h (f refl))
+      go true h = sym h ∙ asked (m.marked x h)
       go false h = refl
 
   pub met_more : among met x ≡ false → (v : ℕ) → (v ≡ 0 → ⊥) → Met (x ∷ met) (set marks (low x) v)
@@ -60,6 +59,10 @@ module _ {met marks : List ℕ} (m : Met met marks) (x : ℕ) where
           let n = eqb-false (low y) (low x) f in
           other y (eqb x y) refl n h (sym (get_or-set_other marks (low x) (low y) v 0 n) ∙ z)
 
+as_searched : (l : List ℕ) (x : ℕ) → list_any (λ y. eqb y x) l ≡ among l x
+as_searched [] x = refl
+as_searched (y ∷ ys) x = ap (λ (t : Bool). eqb y x || t) (as_searched ys x)
+
 -- ---- from a place to the one before it
 
 -- A repeat in what is left of a list is one of the list.
@@ -67,11 +70,6 @@ repeats_in_rest : (l : List ℕ) (i : ℕ) → repeats (drop i l) ≡ true → r
 repeats_in_rest l zero h = h
 repeats_in_rest [] (suc i) h = h
 repeats_in_rest (x ∷ xs) (suc i) h = ap (λ (t : Bool). among xs x || t) (repeats_in_rest xs i h) ∙ or-true (among xs x)
-
-any_in_rest : (test : ℕ → Bool) (l : List ℕ) (i : ℕ) → any test (drop i l) ≡ true → any test l ≡ true
-any_in_rest test l zero h = h
-any_in_rest test [] (suc i) h = h
-any_in_rest test (x ∷ xs) (suc i) h = ap (λ (t : Bool). test x || t) (any_in_rest test xs i h) ∙ or-true (test x)
 
 module _ (l : List ℕ) (i : ℕ) (h : 0 < i) (g : i ≤ length l) where
   pub before : get_or l (i - 1) 0 ∷ drop i l ≡ drop (i - 1) l
@@ -81,11 +79,8 @@ module _ (l : List ℕ) (i : ℕ) (h : 0 < i) (g : i ≤ length l) where
   pub met_twice : among (drop i l) (get_or l (i - 1) 0) ≡ true → repeats l ≡ true
   met_twice e = repeats_in_rest l (i - 1) (ap repeats (sym before) ∙ ap (λ (t : Bool). t || repeats (drop i l)) e)
 
-  pub met_one : (test : ℕ → Bool) → test (get_or l (i - 1) 0) ≡ true → any test l ≡ true
-  met_one test e = any_in_rest test l (i - 1) (ap (any test) (sym before) ∙ ap (λ (t : Bool). t || any test (drop i l)) e)
-
--- What is left of a list, as it is lent.
-pub stands_left : (l : List ℕ) (i x place : ℕ) → place ≡ place_in (take (length l - i) (drop i l)) x → ltb place (length l - i) ≡ among (drop i l) x
-stands_left l i x place e =
-    let whole : take (length l - i) (drop i l) ≡ drop i l = take_all (length l - i) (drop i l) (omega (arith, length-drop i l)) in
-    ap₂ ltb (e ∙ ap (λ (r : List ℕ). place_in r x) whole) (sym (length-drop i l)) ∙ stands_inside (drop i l) x
+-- What is left of a list, as it is lent to the library's search.
+pub stands_left : (l : List ℕ) (i k x : ℕ) → k ≡ i → list_any (λ y. eqb y x) (take (length l - k) (drop k l)) ≡ among (drop i l) x
+stands_left l i k x e =
+    as_searched (take (length l - k) (drop k l)) x
+    ∙ ap (λ (r : List ℕ). among r x) (take_all (length l - k) (drop k l) (omega (arith, length-drop k l)) ∙ ap (λ (n : ℕ). drop n l) e)

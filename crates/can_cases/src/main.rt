@@ -3,14 +3,20 @@
 
 mod frames;
 mod legs;
-mod words;
+mod reports;
 
 use can::Joining;
+use can_rules::Frame;
 use gateway::Gateway;
+use legs::Leg;
+use reports::Report;
 use std::io;
-use words::{say, say_count};
 
 const EVENT: u64 = 0x0A00_0000_0007_0001;
+
+const EVENT_OF_6: u64 = 0x0A00_0000_0006_0001;
+
+const EVENT_OF_8: u64 = 0x0A00_0000_0008_0001;
 
 const START_OF_7: u32 = 0x19F1_6707;
 
@@ -30,72 +36,61 @@ fn main(rt: HostRuntime) {
 }
 
 fn day(rt: &impl Print) -> io::Result<()> {
-    say(
-        rt,
-        b"The box has 4 legs. Boards 5 and 9, on legs 2 and 3, announce board 7's event; board 8, on leg 1, announces its own\n",
+    println!(rt;
+        "The box has 4 legs. Boards 5 and 9, on legs 2 and 3, announce board 7's event; board 8, on leg 1, announces its own"
     )?;
-    let g = announcements();
-    say(
-        rt,
-        b"Board 7's report comes in on leg 0; board 6 begins one in between\n",
-    )?;
-    let event = [0x0A, 0, 0, 0, 0, 7, 0, 1];
-    let other = [0x0A, 0, 0, 0, 0, 6, 0, 1];
-    let none = legs::nobody();
-    let j = comes_in(rt, &g, none, START_OF_7, 8, event)?;
-    let j = comes_in(rt, &g, j, MIDDLE_OF_7, 8, [1, 2, 3, 4, 5, 6, 7, 8])?;
-    let j = comes_in(rt, &g, j, START_OF_6, 8, other)?;
-    let j = comes_in(rt, &g, j, MIDDLE_OF_7, 8, [9, 10, 11, 12, 13, 14, 15, 16])?;
-    let j = comes_in(
-        rt,
-        &g,
-        j,
-        LAST_OF_7,
-        4,
-        [17, 18, 19, 20, 0xEE, 0xEE, 0xEE, 0xEE],
-    )?;
-    say(rt, b"Board 6 ends its own: nobody asked for its event\n")?;
-    comes_in(rt, &g, j, LAST_OF_6, 1, [0xAB, 0, 0, 0, 0, 0, 0, 0])?;
-    Ok(())
+    let mut gateway = gateway::start(4, range::HOUSE).gateway;
+    announce(&mut gateway, 2, 0x0A00_0000_0005, EVENT);
+    announce(&mut gateway, 3, 0x0A00_0000_0009, EVENT);
+    announce(&mut gateway, 1, 0x0A00_0000_0008, EVENT_OF_8);
+    println!(rt; "Board 7's report comes in on leg 0; board 6 begins one in between")?;
+    let mut joining = Joining::new();
+    for (header, length, bytes) in [
+        (START_OF_7, 8, EVENT.to_be_bytes()),
+        (MIDDLE_OF_7, 8, [1, 2, 3, 4, 5, 6, 7, 8]),
+        (START_OF_6, 8, EVENT_OF_6.to_be_bytes()),
+        (MIDDLE_OF_7, 8, [9, 10, 11, 12, 13, 14, 15, 16]),
+        (LAST_OF_7, 4, [17, 18, 19, 20, 0xEE, 0xEE, 0xEE, 0xEE]),
+    ] {
+        let frame = Frame {
+            header,
+            length,
+            bytes,
+        };
+        comes_in(rt, &gateway, &mut joining, frame)?;
+    }
+    println!(rt; "Board 6 ends its own: nobody asked for its event")?;
+    let last = Frame {
+        header: LAST_OF_6,
+        length: 1,
+        bytes: [0xAB, 0, 0, 0, 0, 0, 0, 0],
+    };
+    comes_in(rt, &gateway, &mut joining, last)
 }
 
-fn announcements() -> Gateway {
-    let started = gateway::start(4, range::HOUSE);
-    let g = started.gateway;
-    let g = announced(g, 2, 5, EVENT);
-    let g = announced(g, 3, 9, EVENT);
-    announced(g, 1, 8, 0x0A00_0000_0008_0001)
-}
-
-// Consumer Identified, from a board of the club's block of Node IDs.
-fn announced(g: Gateway, leg: u8, board: u64, event: u64) -> Gateway {
-    let mut bytes = [0u8; 16];
+// Consumer Identified comes in on a leg.
+fn announce(gateway: &mut Gateway, leg: u8, board: u64, event: u64) {
+    let mut bytes = [0; 16];
     numbers::write_at(0x04C4, 2, 0, &mut bytes);
-    numbers::write_at(0x0A00_0000_0000 + board % 256, 6, 2, &mut bytes);
+    numbers::write_at(board, 6, 2, &mut bytes);
     numbers::write_at(event, 8, 8, &mut bytes);
-    let a = gateway::receive(g, leg, &bytes);
-    a.gateway
+    gateway.hear(leg, &bytes);
 }
 
 // A frame comes in on leg 0; what is handed out goes to the box.
 fn comes_in(
     rt: &impl Print,
-    g: &Gateway,
-    j: Joining,
-    header: u32,
-    length: u8,
-    bytes: [u8; 8],
-) -> io::Result<Joining> {
-    let r = frames::joined(rt, 0, j, header, length, bytes)?;
-    let next = r.state;
-    say(rt, b"  refusal ")?;
-    say_count(rt, r.refusal as u64)?;
-    say(rt, b", unfinished ")?;
-    say_count(rt, next.count as u64)?;
-    say(rt, b"\n")?;
-    if r.mti != 0 {
-        let handed = r.message;
-        frames::passed_on(rt, g, r.mti, handed)?;
+    gateway: &Gateway,
+    joining: &mut Joining,
+    frame: Frame,
+) -> io::Result<()> {
+    let joined = Leg::at(0).join(rt, joining, frame)?;
+    println!(rt;
+        "  refusal {}, unfinished {}",
+        joined.refusal, joining.count
+    )?;
+    match Report::handed_out(joined) {
+        Some(report) => frames::passed_on(rt, gateway, report),
+        None => Ok(()),
     }
-    Ok(next)
 }

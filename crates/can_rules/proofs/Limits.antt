@@ -12,7 +12,7 @@ use Rattle.numbers.specs.Numbers.{bytes_of}
 use Rattle.basics.specs.Lists.{each}
 use Rattle.basics.specs.Refusals.{first_of}
 use Rattle.basics.proofs.Bools.{neither}
-use Rattle.message.specs.declared.Field.TheVariants.{Present, Absent}
+use Rattle.std.specs.Prelude.{Some, None}
 use Rattle.message.specs.declared.Message.{Message}
 use Rattle.message.specs.Mti.{meaning_of}
 use Rattle.message.specs.Messages.{bad_nodes, bad_content, other_source}
@@ -122,7 +122,7 @@ abbrev split_as : Message → ℕ
 split_as m = first_of (split_tests nodes m [] [])
 
 abbrev event_from : ℕ → ℕ → Message
-event_from mti n = record { mti = mti; source = n; destination = Absent; event = Present event }
+event_from mti n = record { mti = mti; source = n; destination = None; event = Some event }
 
 -- A 05B4 is one frame: 13 bytes of output are enough, 12 and none are not.
 pub room_limits : (split_as (event_from 0x05B4 first) ≡ 6)
@@ -142,8 +142,8 @@ barred_split = (refl, refl, refl, refl)
 -- Source 0 and 2^48; no event, and a destination; a payload of 05B4 and none of 0F14; a Consumer Identified from a listed node.
 pub other_splits : (split_as (event_from 0x05B4 0) ≡ 3)
     × (split_as (event_from 0x05B4 0x1000000000000) ≡ 3)
-    × (split_as (record { mti = 0x05B4; source = first; destination = Absent; event = Absent }) ≡ 4)
-    × (split_as (record { mti = 0x05B4; source = first; destination = Present second; event = Present event }) ≡ 4)
+    × (split_as (record { mti = 0x05B4; source = first; destination = None; event = None }) ≡ 4)
+    × (split_as (record { mti = 0x05B4; source = first; destination = Some second; event = Some event }) ≡ 4)
     × (first_of (split_tests nodes (event_from 0x05B4 first) (1 ∷ []) []) ≡ 4)
     × (split_as (event_from 0x0F14 first) ≡ 4)
     × (split_as (event_from 0x04C4 first) ≡ 29)

@@ -12,8 +12,7 @@ use Rattle.basics.specs.Refusals.{first_of}
 use Rattle.basics.proofs.Bools.{neither}
 use Rattle.basics.proofs.Firsts.{first_none, first_passed, rest_passed}
 use Rattle.message.specs.declared.Kind.TheVariants.{EventReport}
-use Rattle.message.specs.declared.Field.{Field}
-use Rattle.message.specs.declared.Field.TheVariants.{Present, Absent}
+use Rattle.std.specs.Prelude.{Option, Some, None as Missing}
 use Rattle.message.specs.declared.Message.{Message}
 use Rattle.message.specs.Mti.{addressed, carries_event, is_report, kind_of, meaning_of, mtis_of}
 use Rattle.message.specs.Messages.{bad_node, bad_nodes, misplaced, bad_content, other_source}
@@ -36,17 +35,17 @@ pub data Reporting (n : ℕ) : Handed → Type 0 where
 -- ---- the fields
 
 -- A field against no flag is absent, and one behind a flag has a number.
-unflagged : (d : Field) → misplaced false d ≡ false → d ≡ Absent
-unflagged Absent h = refl
-unflagged (Present x) h = absurd (true≢false h)
+unflagged : (d : Option ℕ) → misplaced false d ≡ false → d ≡ Missing
+unflagged Missing h = refl
+unflagged (Some x) h = absurd (true≢false h)
 
-pub record Numbered (v : Field) : Type 0 where
+pub record Numbered (v : Option ℕ) : Type 0 where
   pub number : ℕ
-  pub there : v ≡ Present number
+  pub there : v ≡ Some number
 
-flagged : (v : Field) → misplaced true v ≡ false → Numbered v
-flagged (Present x) h = record { number = x; there = refl }
-flagged Absent h = absurd (true≢false h)
+flagged : (v : Option ℕ) → misplaced true v ≡ false → Numbered v
+flagged (Some x) h = record { number = x; there = refl }
+flagged Missing h = absurd (true≢false h)
 
 -- ---- the MTI
 
@@ -73,7 +72,7 @@ module _ (m : Message) (payload : List ℕ) (good : bad_content m payload ≡ fa
       → P (handing m payload)
   of_every_report x e alone carries P every =
       let placed = content_placed m payload good in
-      let none : m.destination ≡ Absent = unflagged m.destination (subst (λ (t : Bool). misplaced t m.destination ≡ false) (ap addressed e ∙ alone) placed.destination) in
+      let none : m.destination ≡ Missing = unflagged m.destination (subst (λ (t : Bool). misplaced t m.destination ≡ false) (ap addressed e ∙ alone) placed.destination) in
       let some : Numbered m.event = flagged m.event (subst (λ (t : Bool). misplaced t m.event ≡ false) (ap carries_event e ∙ carries) placed.event) in
       let same : handing m payload ≡ report x m.source some.number payload
       = λ i. record { message = record { mti = e i; source = m.source; destination = none i; event = some.there i }; payload = payload } in

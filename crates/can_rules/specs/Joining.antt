@@ -1,9 +1,8 @@
 -- Joining frames (document 02, W3).
-use Rattle.std.specs.Prelude.{ℕ, ◌+◌, Bool, true, false, cond, not, ◌&&◌, ◌||◌, List, [], ◌∷◌, ◌++◌, map, eqb, leb, ltb, length}
+use Rattle.std.specs.Prelude.{ℕ, ◌+◌, Bool, true, false, cond, not, ◌&&◌, ◌||◌, List, [], ◌∷◌, ◌++◌, map, eqb, leb, ltb, length, Some, None}
 use Rattle.numbers.specs.Numbers.{number_in}
 use Rattle.basics.specs.Lists.{any, without}
 use Rattle.basics.specs.Refusals.{Test, refuse, first_of, answered}
-use Rattle.message.specs.declared.Field.TheVariants.{Present, Absent}
 use Rattle.message.specs.declared.Message.{Message}
 use Rattle.can_rules.specs.declared.Frame.{Frame}
 use Rattle.can_rules.specs.declared.Part.{Part}
@@ -118,7 +117,7 @@ pub record Handed : Type 0 where
 
 -- An event report from a node.
 abbrev pub report : ℕ → ℕ → ℕ → List ℕ → Handed
-report mti n event payload = record { message = record { mti = mti; source = n; destination = Absent; event = Present event }; payload = payload }
+report mti n event payload = record { message = record { mti = mti; source = n; destination = None; event = Some event }; payload = payload }
 
 abbrev pub finished : List ℕ → Begun → Handed
 finished bytes b = report 0x0F14 b.sender b.event (b.so_far ++ bytes)

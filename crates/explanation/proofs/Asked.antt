@@ -1,9 +1,10 @@
 -- What the box answers of an entry when it is asked for a leg, and the lines that the entry has.
-use Rattle.std.proofs.Common.{◌≡◌, ℕ, zero, suc, ◌<◌, Bool, true, false, cond, ◌||◌, eqb, ◌⊎◌, List, [], ◌∷◌, sym, refl, ap, ◌∙◌, ap₂, ⊎_elim, arith, eqb-true}
+use Rattle.std.proofs.Common.{◌≡◌, ℕ, zero, suc, ◌<◌, Bool, true, false, cond, ◌||◌, eqb, ◌⊎◌, List, [], ◌∷◌, Result, Ok, Err, sym, refl, ap, ◌∙◌, ap₂, ⊎_elim, arith, eqb-true}
 use mathlib.Core.Bool.{false≢true}
 use Rattle.numbers.specs.Numbers.{number_at}
 use Rattle.basics.specs.Lists.{first_or}
-use Rattle.basics.specs.Refusals.{answered, Told, told}
+use Rattle.basics.specs.Refusals.{answered, Told, told, refused, refusal_number}
+use Rattle.basics.specs.declared.Refusal.{Refusal}
 use Rattle.message.specs.declared.Kind.TheVariants.{EventReport}
 use Rattle.message.specs.declared.Saying.{Saying}
 use Rattle.message.specs.declared.Saying.TheVariants.{Report}
@@ -20,13 +21,10 @@ use Rattle.gateway_rules.proofs.Said.{report_kind}
 use Rattle.gateway_rules.proofs.Limits.{step_up_to}
 use Rattle.gateway_rules.proofs.Asking.{as_the_step, after_the_step, why_answered, reason_once}
 use Rattle.index_rules.specs.Boxes.{Right}
-use Rattle.gateway.specs.State.{Lists, IndexLists, Whole, gate_in, box_in}
-use Rattle.gateway.specs.declared.state.Head.{Head}
-use Rattle.gateway.specs.declared.asking.WhyAnswer.{WhyAnswer}
-use Rattle.gateway.specs.declared.asking.WhyAnswer.TheVariants.{Because, Refused}
-use Rattle.gateway.specs.Asking.{answer_told, lent_why}
-use Rattle.gateway.specs.Indexing.{WholeIndex}
-use Rattle.gateway.proofs.Lending.{whole_why}
+use Rattle.gateway.specs.State.{gate_in, gate_of, box_of}
+use Rattle.gateway.specs.declared.state.Gateway.{Gateway}
+use Rattle.gateway.specs.Asking.{answer_told, box_why}
+use Rattle.gateway.proofs.Lending.{right_why}
 use Rattle.replay.specs.Lines.{ports}
 use Rattle.explanation.specs.Words.{leg_lines, refused_line, event_in, entry_lines, accepted_report}
 
@@ -89,24 +87,24 @@ module _ (g : Gate) (q : ℕ) (bytes : List ℕ) where
     event_there f t = f ∙ event_at_lem bytes _ (why_answered g q p bytes (accepted_why t)).reports.says ∙ sym (event_said t)
 
     -- A report is told its reason.
-    leg_reason : (a : WhyAnswer) → answer_told a ≡ why_told g q p bytes → accepted_report g q bytes ≡ true → a ≡ Because (reason_for g q (event_in bytes) p)
+    leg_reason : (a : Result Reason Refusal) → answer_told a ≡ why_told g q p bytes → accepted_report g q bytes ≡ true → a ≡ Ok (reason_for g q (event_in bytes) p)
     leg_reason a f t = go a (f ∙ (why_answered g q p bytes (accepted_why t)).told ∙ ap (λ (e : ℕ). told (reason_told (reason_for g q e p) ∷ [])) (sym (event_said t)))
       where
         first : Told (List Numbered) → Numbered
         first x = first_or (reason_told ArrivalPort) (λ n. n) x.value
 
-        go : (a : WhyAnswer) → answer_told a ≡ told (reason_told (reason_for g q (event_in bytes) p) ∷ []) → a ≡ Because (reason_for g q (event_in bytes) p)
-        go (Because r) f = ap Because (reason_once r (reason_for g q (event_in bytes) p) (ap first f))
-        go (Refused n) f = let z : ◌≡◌ {A = ℕ} 0 1 = ap (λ (x : Told (List Numbered)). first_or 0 (λ _. 1) x.value) f in absurd (omega arith)
+        go : (a : Result Reason Refusal) → answer_told a ≡ told (reason_told (reason_for g q (event_in bytes) p) ∷ []) → a ≡ Ok (reason_for g q (event_in bytes) p)
+        go (Ok r) f = ap Ok (reason_once r (reason_for g q (event_in bytes) p) (ap first f))
+        go (Err n) f = let z : ◌≡◌ {A = ℕ} 0 1 = ap (λ (x : Told (List Numbered)). first_or 0 (λ _. 1) x.value) f in absurd (omega arith)
 
     -- What is told a reason is a report.
-    reason_report : (r : Reason) → answer_told (Because r) ≡ why_told g q p bytes → accepted_report g q bytes ≡ true
+    reason_report : (r : Reason) → answer_told (Ok r) ≡ why_told g q p bytes → accepted_report g q bytes ≡ true
     unfolding accepted_report
     reason_report r f =
         let w = why_answered g q p bytes (sym (ap (λ (x : Told (List Numbered)). x.refusal) f)) in
         ap₂ (λ (n : ℕ) (s : Saying). answered (first_or false (λ _. true)) (λ _. false) n (event_of s)) w.accepted w.reports.says
 
-    refuses : (i n : ℕ) → answer_told (Refused n) ≡ why_told g q p bytes → Refuses g q bytes i n
+    refuses : (i n : ℕ) → refused n [] ≡ why_told g q p bytes → Refuses g q bytes i n
     unfolding accepted_report entry_lines
     refuses i n f = go (step g q bytes).refusal refl (reported_in bytes) refl
       where
@@ -129,32 +127,38 @@ module _ (g : Gate) (q : ℕ) (bytes : List ℕ) where
 
 -- ---- the code's question about a leg
 
-module _ (head : Head) (t : Lists) (q leg : ℕ) (bytes : List ℕ) (four : head.ports ≡ ports) (h : leg < ports) where
-  there : leg < (gate_in head t).ports
+module _ (g : Gateway) (q leg : ℕ) (bytes : List ℕ) (right : Right (box_of g) × (g.head.ports ≡ ports)) (h : leg < ports) (a : Result Reason Refusal) (told : answer_told a ≡ box_why (box_of g) q leg bytes) where
+  there : leg < (gate_of g).ports
   unfolding gate_in
-  there = omega (arith, four, h)
+  there = omega (arith, right.1, h)
 
-  pub asked_event : {e : ℕ} → e ≡ number_at bytes 8 8 → accepted_report (gate_in head t) q bytes ≡ true → e ≡ event_in bytes
-  asked_event = event_there (gate_in head t) q bytes leg there
+  answer : answer_told a ≡ why_told (gate_of g) q leg bytes
+  answer = told ∙ right_why (box_of g) q leg bytes right.0
 
-  module _ (x : IndexLists) (inside : Whole t × WholeIndex x × Right (box_in head t x)) (a : WhyAnswer) (told : answer_told a ≡ lent_why head t x q leg bytes) where
-    answer : answer_told a ≡ why_told (gate_in head t) q leg bytes
-    answer = told ∙ whole_why head t x q bytes leg inside.0 inside.1 inside.2
+  module _ {r : Reason} (e : a ≡ Ok r) where
+    pub asked_report : accepted_report (gate_of g) q bytes ≡ true
+    asked_report = reason_report (gate_of g) q bytes leg there r (ap answer_told (sym e) ∙ answer)
 
-    pub asked_reason : {r : Reason} → a ≡ Because r → accepted_report (gate_in head t) q bytes ≡ true → r ≡ reason_for (gate_in head t) q (event_in bytes) leg
-    asked_reason e f = same (sym e ∙ leg_reason (gate_in head t) q bytes leg there a answer f)
+    pub asked_reason : r ≡ reason_for (gate_of g) q (event_in bytes) leg
+    asked_reason = same (sym e ∙ leg_reason (gate_of g) q bytes leg there a answer asked_report)
       where
-        same : {x y : Reason} → Because x ≡ Because y → x ≡ y
+        same : {x y : Reason} → ◌≡◌ {A = Result Reason Refusal} (Ok x) (Ok y) → x ≡ y
         same e = cc
 
-    pub asked_refused : {n : ℕ} → a ≡ Refused n → accepted_report (gate_in head t) q bytes ≡ true → ⊥
-    asked_refused {n} e f = go (sym e ∙ leg_reason (gate_in head t) q bytes leg there a answer f)
+    pub asked_event : {event : ℕ} → event ≡ number_at bytes 8 8 → event ≡ event_in bytes
+    asked_event f = event_there (gate_of g) q bytes leg there f asked_report
+
+  module _ {refusal : Refusal} (e : a ≡ Err refusal) where
+    pub asked_told : refused (refusal_number refusal) [] ≡ why_told (gate_of g) q leg bytes
+    asked_told = ap answer_told (sym e) ∙ answer
+
+    pub asked_refused : accepted_report (gate_of g) q bytes ≡ true → ⊥
+    asked_refused f = go (sym e ∙ leg_reason (gate_of g) q bytes leg there a answer f)
       where
-        go : {r : Reason} → Refused n ≡ Because r → ⊥
+        go : {r : Reason} → ◌≡◌ {A = Result Reason Refusal} (Err refusal) (Ok r) → ⊥
         go e = let z : ◌≡◌ {A = ℕ} 0 1 = cc in omega arith
 
-    pub asked_report : {r : Reason} → a ≡ Because r → accepted_report (gate_in head t) q bytes ≡ true
-    asked_report {r} e = reason_report (gate_in head t) q bytes leg there r (ap answer_told (sym e) ∙ answer)
-
-    pub asked_refuses : (i : ℕ) {n : ℕ} → a ≡ Refused n → Refuses (gate_in head t) q bytes i n
-    asked_refuses i {n} e = refuses (gate_in head t) q bytes leg there i n (ap answer_told (sym e) ∙ answer)
+-- Each leg of an entry is refused as the first.
+pub first_refuses : (g : Gateway) (q : ℕ) (bytes : List ℕ) → g.head.ports ≡ ports → (i : ℕ) {n : ℕ} → refused n [] ≡ why_told (gate_of g) q 0 bytes → Refuses (gate_of g) q bytes i n
+unfolding gate_in
+first_refuses g q bytes four i {n} f = refuses (gate_of g) q bytes 0 (omega (arith, four)) i n f

@@ -1,5 +1,5 @@
 -- What a trial file prints in words: why each report was sent to a leg or held back from it (document 02, W1: "The yard crew can't tell why a report was held back").
-use Rattle.std.specs.Prelude.{ℕ, zero, suc, ◌*◌, Bool, true, false, cond, ◌||◌, List, [], ◌++◌, ◌==◌}
+use Rattle.std.specs.Prelude.{ℕ, zero, suc, ◌-◌, ◌*◌, Bool, true, false, cond, ◌||◌, List, [], ◌++◌, ◌==◌}
 use Rattle.numbers.specs.Numbers.{bytes_of}
 use Rattle.basics.specs.Lists.{first_or}
 use Rattle.basics.specs.Refusals.{answered}
@@ -12,6 +12,7 @@ use Rattle.gateway_rules.specs.declared.Reason.TheVariants.{ArrivalPort, Automat
 use Rattle.gateway_rules.specs.State.{Gate, start_of}
 use Rattle.gateway_rules.specs.Step.{step}
 use Rattle.gateway_rules.specs.Reasons.{reason_for, reported_in}
+use Rattle.replay.specs.declared.entries.Entries.{Entries}
 use Rattle.replay.specs.Files.{entry_count, port_in, body_in, good_file}
 use Rattle.replay.specs.Lines.{ports, step_at}
 
@@ -76,6 +77,10 @@ unfoldable pub lines_from : ℕ → ℕ → Bool → Gate → List ℕ → List 
 lines_from zero i reported g s = cond reported [] no_report
 lines_from (suc n) i reported g s =
     entry_lines i g (port_in s i) (body_in s i) ++ lines_from n (suc i) (reported || accepted_report g (port_in s i) (body_in s i)) (step_at g s i).next s
+
+-- The lines of the entries that are still to come.
+abbrev pub lines_of : Bool → Gate → Entries → List ℕ
+lines_of reported g e = lines_from (entry_count e.file.now - e.index) e.index reported g e.file.now
 
 -- From a start of 4 ports with the house block, as the trial program has it.
 unfoldable pub text_of : List ℕ → List ℕ

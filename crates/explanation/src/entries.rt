@@ -1,89 +1,26 @@
 // The entries of a trial file, one after another.
-ghost use Rattle.std.specs.Prelude.{◌≡◌, ◌≤◌, true, false, length};
+ghost use Rattle.std.specs.Prelude.{◌≡◌, ◌≤◌, false, length};
 ghost use Rattle.range.specs.Range.{house};
-ghost use Rattle.text.specs.Text.{filled, end_of};
-ghost use Rattle.index_rules.specs.Boxes.{Right};
-ghost use Rattle.gateway.specs.State.{gate_of, box_of};
+ghost use Rattle.text.specs.Text.{wrote};
 ghost use Rattle.gateway_rules.specs.State.{start_of};
-ghost use Rattle.replay.specs.Files.{entry_count, good_file};
 ghost use Rattle.replay.specs.Lines.{ports};
-ghost use Rattle.explanation.specs.Words.{lines_from};
+ghost use Rattle.explanation.specs.Words.{lines_of};
 
 use crate::legs;
-use crate::legs::SoFar;
-use gateway::Gateway;
 use range::HOUSE;
-use replay::PORTS;
-use text::Place;
+use replay::{Entries, PORTS};
+use text::Page;
 
-// Puts the lines of each entry into text.
-pub(crate) fn run(file: &[u8], first: Place, text: &mut [u8]) -> Place
-    requires file_value { good_file file.now ≡ true }
-    requires at_in_bounds { first.at ≤ length text.old }
-    ensures value { result ≡ end_of first (lines_from (entry_count file.now) 0 false (start_of ports house) file.now) text.old }
-    ensures text_after { text.new ≡ filled first (lines_from (entry_count file.now) 0 false (start_of ports house) file.now) text.old }
+// Puts the lines of each entry on a page. An entry is asked about before the box takes it.
+pub(crate) fn put_lines(page: &mut Page, entries: Entries)
+    requires { page.old.at ≤ length page.old.text.now }
+    ensures { page.new ≡ wrote page.old (lines_of false (start_of ports house) entries.entry) }
 {
-    let started = gateway::start(PORTS, HOUSE);
-    let gateway = started.gateway;
-    from(gateway, file, first, text)
-}
-
-// The same from any state with 4 ports whose index is right. An entry is asked about before the box takes it.
-fn from(gateway: Gateway, file: &[u8], first: Place, text: &mut [u8]) -> Place
-    requires right { Right (box_of gateway) × (gateway.head.ports ≡ ports) }
-    requires file_value { good_file file.now ≡ true }
-    requires at_in_bounds { first.at ≤ length text.old }
-    ensures value { result ≡ end_of first (lines_from (entry_count file.now) 0 false (gate_of gateway) file.now) text.old }
-    ensures text_after { text.new ≡ filled first (lines_from (entry_count file.now) 0 false (gate_of gateway) file.now) text.old }
-{
-    let mut head = gateway.head;
-    let mut nodes = gateway.nodes;
-    let mut starts = gateway.starts;
-    let mut ports = gateway.ports;
-    let mut sizes = gateway.sizes;
-    let mut order = gateway.order;
-    let mut sets = gateway.sets;
-    let mut told = SoFar {
-        place: first,
-        reported: false,
-    };
-    let count = numbers::read_at(file, 0, 2) as usize;
-    let mut at = 2 + count * 3;
-    let mut i = 0;
-    while i < count {
-        let entry = 2 + i * 3;
-        let port = file[entry];
-        let length = numbers::read_at(file, entry + 1, 2) as usize;
-        let end = at + length;
-        told = legs::put(
-            i,
-            head,
-            &nodes,
-            &starts,
-            &ports,
-            &sizes,
-            &order,
-            &sets,
-            port,
-            &file[at..end],
-            told,
-            text,
-        );
-        let a = gateway::receive_lent(
-            head,
-            &mut nodes,
-            &mut starts,
-            &mut ports,
-            &mut sizes,
-            &mut order,
-            &mut sets,
-            port,
-            &file[at..end],
-        );
-        head.marks = a.marks;
-        head.count = a.count;
-        at = end;
-        i += 1;
+    let mut gateway = gateway::start(PORTS, HOUSE).gateway;
+    let mut reported = false;
+    for entry in entries {
+        reported |= legs::put(page, &gateway, entry);
+        gateway.hear(entry.port, entry.body);
     }
-    legs::put_end(told, text)
+    legs::put_end(page, reported);
 }

@@ -1,112 +1,56 @@
 // The lines of an entry, leg by leg.
-ghost use Rattle.std.specs.Prelude.{◌≡◌, ◌≤◌, true, ◌||◌, [], length, if◌then◌else◌};
-ghost use Rattle.text.specs.Text.{filled, end_of};
+ghost use Rattle.std.specs.Prelude.{◌≡◌, true, [], if◌then◌else◌, MatchResult};
+ghost use Rattle.basics.specs.Refusals.{refused, refusal_number};
+ghost use Rattle.gateway_rules.specs.Reasons.{why_told};
+ghost use Rattle.text.specs.Text.{wrote};
 ghost use Rattle.index_rules.specs.Boxes.{Right};
-ghost use Rattle.gateway.specs.State.{Whole, gate_in, box_in, lists, index_lists};
-ghost use Rattle.gateway.specs.Indexing.{WholeIndex};
+ghost use Rattle.gateway.specs.State.{gate_of, box_of};
 ghost use Rattle.replay.specs.Lines.{ports as leg_count};
 ghost use Rattle.explanation.specs.Words.{event_in, leg_lines, entry_lines, accepted_report, no_report};
 
 use crate::lines;
-use gateway::{Head, WhyAnswer};
-use replay::PORTS;
-use text::Place;
+use basics::Refusal;
+use gateway::Gateway;
+use replay::{Entry, PORTS};
+use text::Page;
 
-// What is told so far: the place after it, and whether a report was accepted.
-#[derive(Clone, Copy)]
-pub(crate) struct SoFar {
-    pub place: Place,
-    pub reported: bool,
-}
-
-// Puts the lines of entry i into text, in the state that the entries before it have left.
-pub(crate) fn put(
-    i: usize,
-    head: Head,
-    nodes: &[u64],
-    starts: &[u64],
-    ports: &[u8],
-    sizes: &[u8],
-    order: &[u8],
-    sets: &[u64],
-    port: u8,
-    bytes: &[u8],
-    before: SoFar,
-    text: &mut [u8],
-) -> SoFar
-    requires whole { Whole (lists nodes.now starts.now ports.now sizes.now) × WholeIndex (index_lists order.now sets.now) × Right (box_in head (lists nodes.now starts.now ports.now sizes.now) (index_lists order.now sets.now)) }
-    requires ports_value { (head.ports ≡ leg_count) × (before.place.at ≤ length text.old) }
-    ensures place_value { result.place ≡ end_of before.place (entry_lines i (gate_in head (lists nodes.now starts.now ports.now sizes.now)) port bytes.now) text.old }
-    ensures text_after { text.new ≡ filled before.place (entry_lines i (gate_in head (lists nodes.now starts.now ports.now sizes.now)) port bytes.now) text.old }
-    ensures reported_value { result.reported ≡ (before.reported || accepted_report (gate_in head (lists nodes.now starts.now ports.now sizes.now)) port bytes.now) }
+// Puts the lines of an entry on a page, in the state that the entries before it have left, and answers whether it is an accepted report.
+pub(crate) fn put(page: &mut Page, gateway: &Gateway, entry: Entry) -> bool
+    requires right { Right (box_of gateway.now) × (gateway.now.head.ports ≡ leg_count) }
+    requires within { page.old ≡ wrote page.old [] }
+    ensures lines { page.new ≡ wrote page.old (entry_lines entry.entry.index (gate_of gateway.now) entry.entry.port entry.entry.body.now) }
+    ensures accepted { result ≡ accepted_report (gate_of gateway.now) entry.entry.port entry.entry.body.now }
 {
-    let place = before.place;
-    let WhyAnswer::Refused(n) = gateway::why(
-        head, nodes, starts, ports, sizes, order, sets, port, 0, bytes,
-    ) else {
-        let next = put_legs(
-            i, head, nodes, starts, ports, sizes, order, sets, port, bytes, place, text,
-        );
-        return SoFar {
-            place: next,
-            reported: true,
-        };
+    let Err(refusal) = put_legs(page, gateway, entry) else {
+        return true;
     };
-    if n == 15 {
-        return before;
+    if refusal == Refusal::NoReport {
+        return false;
     }
-    let next = lines::put_refusal(i, n, place, text);
-    SoFar {
-        place: next,
-        reported: before.reported,
-    }
+    lines::put_refusal(page, entry.index, refusal);
+    false
 }
 
-// Puts a line for each leg. A report has no destination, so its event stands at byte 8.
-fn put_legs(
-    i: usize,
-    head: Head,
-    nodes: &[u64],
-    starts: &[u64],
-    ports: &[u8],
-    sizes: &[u8],
-    order: &[u8],
-    sets: &[u64],
-    port: u8,
-    bytes: &[u8],
-    at: Place,
-    text: &mut [u8],
-) -> Place
-    requires whole { Whole (lists nodes.now starts.now ports.now sizes.now) × WholeIndex (index_lists order.now sets.now) × Right (box_in head (lists nodes.now starts.now ports.now sizes.now) (index_lists order.now sets.now)) }
-    requires ports_value { (head.ports ≡ leg_count) × (at.at ≤ length text.old) }
-    requires bytes_value { accepted_report (gate_in head (lists nodes.now starts.now ports.now sizes.now)) port bytes.now ≡ true }
-    ensures value { result ≡ end_of at (leg_lines leg_count 0 i (gate_in head (lists nodes.now starts.now ports.now sizes.now)) port (event_in bytes.now)) text.old }
-    ensures text_after { text.new ≡ filled at (leg_lines leg_count 0 i (gate_in head (lists nodes.now starts.now ports.now sizes.now)) port (event_in bytes.now)) text.old }
+// Puts a line for each leg, or none where the box refuses: it is asked of each leg, and refuses all or none. A report has no destination, so its event stands at byte 8.
+fn put_legs(page: &mut Page, gateway: &Gateway, entry: Entry) -> Result<(), Refusal>
+    requires right { Right (box_of gateway.now) × (gateway.now.head.ports ≡ leg_count) }
+    requires within { page.old ≡ wrote page.old [] }
+    ensures { let e = entry.entry in let g = gate_of gateway.now in MatchResult result (λ _. (accepted_report g e.port e.body.now ≡ true) × (page.new ≡ wrote page.old (leg_lines leg_count 0 e.index g e.port (event_in e.body.now)))) (λ r. (refused (refusal_number r) [] ≡ why_told g e.port 0 e.body.now) × (page.new ≡ wrote page.old [])) }
 {
-    let event = numbers::read_at(bytes, 8, 8);
-    let mut next = at;
-    let mut leg = 0;
-    while leg < PORTS {
-        let WhyAnswer::Because(reason) = gateway::why(
-            head, nodes, starts, ports, sizes, order, sets, port, leg, bytes,
-        ) else {
-            return next;
-        };
-        next = lines::put_leg(i, event, leg, reason, next, text);
-        leg += 1;
+    let event = numbers::read_at(entry.body, 8, 8);
+    for leg in 0..PORTS {
+        let reason = gateway.why(entry.port, leg, entry.body)?;
+        lines::put_leg(page, entry.index, event, leg, reason);
     }
-    next
+    Ok(())
 }
 
 // Puts the line of a file without a report.
-pub(crate) fn put_end(told: SoFar, text: &mut [u8]) -> Place
-    requires { told.place.at ≤ length text.old }
-    ensures value { result ≡ end_of told.place (if told.reported then [] else no_report) text.old }
-    ensures text_after { text.new ≡ filled told.place (if told.reported then [] else no_report) text.old }
+pub(crate) fn put_end(page: &mut Page, reported: bool)
+    requires { page.old ≡ wrote page.old [] }
+    ensures { page.new ≡ wrote page.old (if reported then [] else no_report) }
 {
-    let place = told.place;
-    if told.reported {
-        return place;
+    if !reported {
+        page.put(b"no event report was accepted\n");
     }
-    text::put(b"no event report was accepted\n", place, text)
 }

@@ -1,97 +1,89 @@
 // The lines of an entry.
 ghost use Rattle.std.specs.Prelude.{◌≡◌, ◌%◌, ◌^◌};
+ghost use Rattle.basics.specs.Refusals.{refusal_number};
 ghost use Rattle.range.specs.Range.{last};
-ghost use Rattle.text.specs.Text.{filled, end_of};
+ghost use Rattle.text.specs.Text.{wrote};
 ghost use Rattle.explanation.specs.Words.{event_text, block_text, holder_text, reason_text, leg_line, refused_line};
 
+use basics::Refusal;
 use gateway_rules::{Holder, Reason};
 use range::Block;
-use text::Place;
+use text::Page;
 
-// Puts the line of a refused entry into text.
-pub(crate) fn put_refusal(i: usize, n: u8, at: Place, text: &mut [u8]) -> Place
-    ensures value { result ≡ end_of at (refused_line i n) text.old }
-    ensures text_after { text.new ≡ filled at (refused_line i n) text.old }
+// Puts the line of a refused entry on a page.
+#[tactic(auto, using(text::proofs::Laws::wrote_next), unfolding(crate::specs::Words::refused_line))]
+pub(crate) fn put_refusal(page: &mut Page, i: usize, refusal: Refusal)
+    ensures { page.new ≡ wrote page.old (refused_line i (refusal_number refusal)) }
 {
-    let p1 = text::put_decimal(i as u64, at, text);
-    let p2 = text::put(b": refused ", p1, text);
-    let p3 = text::put_decimal(n as u64, p2, text);
-    text::put(b": sent to no leg\n", p3, text)
+    page.put_decimal(i as u64);
+    page.put(b": refused ");
+    page.put_decimal(u8::from(refusal) as u64);
+    page.put(b": sent to no leg\n");
 }
 
-// Puts the line of a leg into text: of entry i's report of an event.
-pub(crate) fn put_leg(
-    i: usize,
-    event: u64,
-    leg: u8,
-    reason: Reason,
-    at: Place,
-    text: &mut [u8],
-) -> Place
-    ensures value { result ≡ end_of at (leg_line i event leg reason) text.old }
-    ensures text_after { text.new ≡ filled at (leg_line i event leg reason) text.old }
+// Puts the line of a leg on a page: of entry i's report of an event.
+#[tactic(auto, using(text::proofs::Laws::wrote_next), unfolding(crate::specs::Words::leg_line))]
+pub(crate) fn put_leg(page: &mut Page, i: usize, event: u64, leg: u8, reason: Reason)
+    ensures { page.new ≡ wrote page.old (leg_line i event leg reason) }
 {
-    let p1 = text::put_decimal(i as u64, at, text);
-    let p2 = text::put(b": leg ", p1, text);
-    let p3 = text::put_decimal(leg as u64, p2, text);
-    let p4 = put_reason(event, reason, p3, text);
-    text::put(b"\n", p4, text)
+    page.put_decimal(i as u64);
+    page.put(b": leg ");
+    page.put_decimal(leg as u64);
+    put_reason(page, event, reason);
+    page.put(b"\n");
 }
 
-fn put_reason(event: u64, reason: Reason, at: Place, text: &mut [u8]) -> Place
-    ensures value { result ≡ end_of at (reason_text event reason) text.old }
-    ensures text_after { text.new ≡ filled at (reason_text event reason) text.old }
+#[tactic(auto, using(text::proofs::Laws::wrote_next))]
+fn put_reason(page: &mut Page, event: u64, reason: Reason)
+    ensures { page.new ≡ wrote page.old (reason_text event reason) }
 {
     match reason {
-        Reason::ArrivalPort => text::put(b" not sent: the report came in there", at, text),
+        Reason::ArrivalPort => page.put(b" not sent: the report came in there"),
         Reason::AutomaticEvent => {
-            let p1 = text::put(b" sent: ", at, text);
-            let p2 = put_event(event, p1, text);
-            text::put(b" is automatic", p2, text)
+            page.put(b" sent: ");
+            put_event(page, event);
+            page.put(b" is automatic");
         }
-        Reason::OpenPort => text::put(b" sent: a full table opened the leg", at, text),
-        Reason::HeldBy(holder) => put_holder(holder, at, text),
+        Reason::OpenPort => page.put(b" sent: a full table opened the leg"),
+        Reason::HeldBy(holder) => put_holder(page, holder),
         Reason::NothingHolds => {
-            let p1 = text::put(b" held back: nothing on that leg asks for ", at, text);
-            put_event(event, p1, text)
+            page.put(b" held back: nothing on that leg asks for ");
+            put_event(page, event);
         }
     }
 }
 
-fn put_holder(holder: Holder, at: Place, text: &mut [u8]) -> Place
-    ensures value { result ≡ end_of at (holder_text holder) text.old }
-    ensures text_after { text.new ≡ filled at (holder_text holder) text.old }
+#[tactic(auto, using(text::proofs::Laws::wrote_next), unfolding(crate::specs::Words::holder_text))]
+fn put_holder(page: &mut Page, holder: Holder)
+    ensures { page.new ≡ wrote page.old (holder_text holder) }
 {
-    let block = holder.block;
     let mut node = [0u8; 6];
     numbers::write(holder.node, &mut node);
-    let p1 = text::put(b" sent: line ", at, text);
-    let p2 = text::put_decimal(holder.place as u64, p1, text);
-    let p3 = text::put(b", board ", p2, text);
-    let p4 = text::put_hex(&node, p3, text);
-    let p5 = text::put(b" asked for ", p4, text);
-    put_block(block, p5, text)
+    page.put(b" sent: line ");
+    page.put_decimal(holder.place as u64);
+    page.put(b", board ");
+    page.put_hex(&node);
+    page.put(b" asked for ");
+    put_block(page, holder.block);
 }
 
-fn put_block(block: Block, at: Place, text: &mut [u8]) -> Place
-    ensures value { result ≡ end_of at (block_text block) text.old }
-    ensures text_after { text.new ≡ filled at (block_text block) text.old }
+#[tactic(auto, using(text::proofs::Laws::wrote_next), unfolding(crate::specs::Words::block_text))]
+fn put_block(page: &mut Page, block: Block)
+    ensures { page.new ≡ wrote page.old (block_text block) }
 {
-    let p1 = put_event(block.start, at, text);
-    if block.k == 0 {
-        return p1;
+    put_event(page, block.start);
+    if block.k != 0 {
+        page.put(b" to ");
+        put_event(page, last_of(block));
     }
-    let p2 = text::put(b" to ", p1, text);
-    put_event(last_of(block), p2, text)
 }
 
-fn put_event(event: u64, at: Place, text: &mut [u8]) -> Place
-    ensures value { result ≡ end_of at (event_text event) text.old }
-    ensures text_after { text.new ≡ filled at (event_text event) text.old }
+fn put_event(page: &mut Page, event: u64)
+    ensures { page.new ≡ wrote page.old (event_text event) }
 {
     let mut bytes = [0u8; 8];
     numbers::write(event, &mut bytes);
-    text::put_hex(&bytes, at, text)
+    page.put_hex(&bytes);
 }
 
 // The last event. Of a block it is below 2^64; eight bytes show no more of any other.
@@ -100,8 +92,8 @@ fn last_of(block: Block) -> u64
 {
     let k = block.k;
     if k < 64 {
-        std::num::wrapping_add_u64(block.start, (1 << k) - 1)
+        block.start.wrapping_add((1 << k) - 1)
     } else {
-        std::num::wrapping_add_u64(block.start, u64::MAX)
+        block.start.wrapping_add(u64::MAX)
     }
 }

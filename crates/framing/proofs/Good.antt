@@ -1,15 +1,18 @@
 -- The size of a step, and what a good file has.
 use Prim.Native.Nat.{ℕ, suc, ◌+◌, ◌-◌, ◌≤◌, ◌<◌}
 use mathlib.Core.Path.{◌≡◌, refl, sym, ap, ◌∙◌}
-use mathlib.Core.Bool.{Bool, true, false, ◌&&◌, ◌||◌}
+use mathlib.Core.Bool.{Bool, true, false, ◌&&◌, ◌||◌, true≢false}
 use mathlib.Core.List.{List}
 use native.Mathlib.Omega.{arith}
-use borrow.Author.Tests.{ne_eqb, eqb-true, eqb-false, leb-true}
+use borrow.Author.Tests.{ne_eqb, eqb-true, eqb-false, leb-true, le-leb}
 use lib.Dec.{eqb, leb}
 use lib.ListN.{length, get_or}
+use Rattle.std.specs.Prelude.{Option, Some, None, IsSome}
 use Rattle.numbers.specs.Numbers.{Bytes, number_at}
 use Rattle.numbers.proofs.Laws.{number_at_below}
 use Rattle.basics.proofs.Bools.{both}
+use Rattle.framing.specs.declared.files.Kind.{Kind}
+use Rattle.framing.specs.Kinds.{IsKind}
 use Rattle.framing.specs.Files.{joins, splits, content_length, room_at, size_at, good_split, good_step, good_steps, step_count, steps_at, most_steps, good_file}
 
 -- A number of two bytes.
@@ -28,6 +31,19 @@ module _ (s : List ℕ) (at : ℕ) where
   size_split e = rw (ne_eqb (get_or s at 0) 1 e)
 
 -- ---- a good step
+
+module _ (s : List ℕ) (at : ℕ) (least : at + 14 ≤ length s) where
+  pub good_join : get_or s at 0 ≡ 1 → good_step s at ≡ true
+  unfolding good_step
+  good_join e = rw (le-leb (at + 14) (length s) least, e)
+
+  pub good_when_split : get_or s at 0 ≡ 2 → good_step s at ≡ good_split s at
+  unfolding good_step
+  good_when_split e = rw (le-leb (at + 14) (length s) least, e)
+
+  pub good_other : (get_or s at 0 ≡ 1 → ⊥) → (get_or s at 0 ≡ 2 → ⊥) → good_step s at ≡ false
+  unfolding good_step
+  good_other e f = rw (le-leb (at + 14) (length s) least, ne_eqb (get_or s at 0) 1 e, ne_eqb (get_or s at 0) 2 f)
 
 pub record Whole (s : List ℕ) (at : ℕ) : Type 0 where
   pub head : at + 33 ≤ length s
@@ -55,6 +71,10 @@ module _ (s : List ℕ) (at : ℕ) (good : good_step s at ≡ true) where
 
   pub step_least : at + 14 ≤ length s
   step_least = parts.0
+
+  pub step_known : (kind : Option Kind) → IsKind kind (get_or s at 0) → IsSome kind
+  step_known None other = absurd (true≢false (sym good ∙ good_other s at step_least other.0 other.1))
+  step_known (Some kind) is = refl
 
   pub other_split : (get_or s at 0 ≡ 1 → ⊥) → good_split s at ≡ true
   other_split other = (both (splits s at) (good_split s at) (rw (ne_eqb (get_or s at 0) 1 other) at parts.1)).1

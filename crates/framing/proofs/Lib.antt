@@ -1,5 +1,4 @@
 pub mod Good
-pub mod Texts
 pub mod Places
 pub mod Handing
 pub mod Sizes

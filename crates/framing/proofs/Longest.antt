@@ -6,7 +6,7 @@ use mathlib.Core.List.{List, [], ◌∷◌}
 use native.Mathlib.Omega.{arith}
 use lib.ListN.{length, replicate, length-append}
 use Rattle.basics.specs.Refusals.{first_of, answered}
-use Rattle.text.specs.Text.{decimal, hex_of, bad_file}
+use Rattle.text.specs.Text.{decimal, hex_of, bad_file, or_dash}
 use Rattle.text.proofs.Lengths.{decimal_length, hex_length}
 use Rattle.message.specs.declared.Message.{Message}
 use Rattle.can_rules.specs.Frames.{frame_at, all_bytes}
@@ -17,7 +17,7 @@ use Rattle.can_rules.proofs.Bounds.{Bounded}
 use Rattle.can_rules.proofs.Changes.{next_bounded}
 use Rattle.framing.specs.Files.{joins, good_step, good_steps, message_at, content_at, room_at, size_at, step_count, steps_at, aliases_in, good_file}
 use Rattle.framing.specs.Shown.{Shown, handed_bytes, shown_join, shown_split, shown_at}
-use Rattle.framing.specs.Lines.{or_dash, line_of, line_for, lines_from, step_lines, text_of, longest_line, longest}
+use Rattle.framing.specs.Lines.{line_of, line_for, lines_from, step_lines, text_of, longest_line, longest}
 use Rattle.framing.proofs.Good.{step_least, steps_good, good_file_lem}
 use Rattle.framing.proofs.Handing.{Hands, join_hands}
 use Rattle.framing.proofs.Handing.Hands.{nothing, first}

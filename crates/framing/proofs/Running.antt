@@ -6,20 +6,19 @@ use mathlib.Core.List.{List, [], ◌++◌}
 use native.Mathlib.Numerals.{add-one}
 use native.Mathlib.Omega.{arith}
 use lib.ListN.{length, take}
-use Rattle.basics.specs.Lists.{each}
+use Rattle.std.specs.Prelude.{Result}
 use Rattle.basics.proofs.Each.{each_length}
-use Rattle.text.specs.declared.Place.{Place}
-use Rattle.text.specs.Text.{filled, end_of}
-use Rattle.text.proofs.Laws.{Remains, remains_next, remains_none}
+use Rattle.text.specs.declared.Page.{Page}
+use Rattle.text.specs.Text.{wrote}
+use Rattle.text.proofs.Laws.{Remains, remains_all, remains_next, remains_none}
 use Rattle.can_rules.specs.Aliases.{Aliases}
 use Rattle.can_rules.specs.Joining.{Begun}
 use Rattle.can.specs.declared.Joining.{Joining}
 use Rattle.can.specs.States.{begun_of, gathered_at, state_of}
-use Rattle.framing.specs.declared.Answer.{Answer}
 use Rattle.framing.specs.Files.{step_count, steps_at, good_step, good_steps, size_at}
 use Rattle.framing.specs.Shown.{Shown, shown_at}
 use Rattle.framing.specs.Lines.{line_of, line_for, lines_from, step_lines}
-use Rattle.framing.specs.Steps.{StepLeft}
+use Rattle.framing.specs.Steps.{written_by, refusal_of, StepLeft}
 use Rattle.framing.proofs.Good.{step_whole, steps_good}
 
 -- ---- the joining state
@@ -28,10 +27,6 @@ use Rattle.framing.proofs.Good.{step_whole, steps_good}
 count_length : (j : Joining) → length (state_of j) ≡ j.count
 unfolding state_of
 count_length j = each_length j.count (λ (i : ℕ). begun_of (gathered_at j i))
-
-state_none : (j : Joining) → j.count ≡ 0 → state_of j ≡ []
-unfolding state_of each
-state_none j e = ap (λ (n : ℕ). each n (λ (i : ℕ). begun_of (gathered_at j i))) e
 
 -- ---- the lines of the steps from a place on
 
@@ -45,29 +40,29 @@ unfolding lines_from
 lines_more n k l b s at = refl
 
 -- The line of a step's answer, with the bytes that the step leaves.
-line_for_lem : (k : ℕ) (shown : Shown) {a : Answer} {out bytes : List ℕ} → StepLeft shown a out → bytes ≡ take a.bytes out
-    → line_of k a.refusal bytes a.state.count ≡ line_for k shown
-line_for_lem k shown {a} left e =
-    let count = sym (count_length a.state) ∙ ap length left.next in
+line_for_lem : (k : ℕ) (shown : Shown) (j : Joining) {done : Result ℕ ℕ} {out bytes : List ℕ} → StepLeft shown done (state_of j) out → bytes ≡ take (written_by done) out
+    → line_of k (refusal_of done) bytes j.count ≡ line_for k shown
+line_for_lem k shown j left e =
+    let count = sym (count_length j) ∙ ap length left.next in
     λ i. line_of k (left.refusal i) ((e ∙ left.bytes) i) (count i)
 
 -- ---- the steps done
 
 -- Before step k, which stands at a place of the file.
-pub record Running (l : Aliases) (file : List ℕ) (first : Place) (text₀ : List ℕ) (k at : ℕ) (b : List Begun) (next : Place) (text : List ℕ) : Type 0 where
+pub record Running (l : Aliases) (file : List ℕ) (first : Page) (k at : ℕ) (b : List Begun) (page : Page) : Type 0 where
   pub inside : at ≤ length file
   pub count : k ≤ step_count file
   pub good : good_steps (step_count file - k) file at ≡ true
-  pub rest : Remains first (step_lines l file) text₀ next (lines_from (step_count file - k) k l b file at) text
+  pub rest : Remains first (step_lines l file) page (lines_from (step_count file - k) k l b file at)
 
-pub running_start : (l : Aliases) (file : List ℕ) (first : Place) (text : List ℕ) {at : ℕ} (j : Joining) → at ≡ steps_at file → j.count ≡ 0
-    → steps_at file ≤ length file → good_steps (step_count file) file (steps_at file) ≡ true → first.at ≤ length text
-    → Running l file first text 0 at (state_of j) first text
-running_start l file first text j z none h g e =
+pub running_start : (l : Aliases) (file : List ℕ) (page : Page) {at : ℕ} (j : Joining) → at ≡ steps_at file → state_of j ≡ []
+    → steps_at file ≤ length file → good_steps (step_count file) file (steps_at file) ≡ true → page.at ≤ length page.text.now
+    → Running l file page 0 at (state_of j) page
+running_start l file page j z none h g e =
     let all : step_count file - 0 ≡ step_count file = omega arith in
-    rw (z, state_none j none) (record { inside = h; count = omega arith; good = rw all g; rest = rw all (record { inside = e; place = refl; bytes = refl }) })
+    rw (z, none) (record { inside = h; count = omega arith; good = rw all g; rest = rw all (remains_all page (step_lines l file) e) })
 
-module _ {l : Aliases} {file : List ℕ} {first : Place} {text₀ : List ℕ} {k at : ℕ} {b : List Begun} {next : Place} {text : List ℕ} (r : Running l file first text₀ k at b next text) where
+module _ {l : Aliases} {file : List ℕ} {first : Page} {k at : ℕ} {b : List Begun} {page : Page} (r : Running l file first k at b page) where
   module _ (h : k < step_count file) where
     left : step_count file - k ≡ suc (step_count file - (k + 1))
     left = omega (arith, h)
@@ -89,20 +84,20 @@ module _ {l : Aliases} {file : List ℕ} {first : Place} {text₀ : List ℕ} {k
         ∙ λ i. sym e i ++ lines_from (step_count file - (k + 1)) (sym (add-one k) i) l (sym f i) file (at + size_at file at)
 
     -- The step's line is put in, and the next step stands after it.
-    pub running_next : {a : Answer} {out bytes : List ℕ} {next' : Place} {text' : List ℕ} {size : ℕ} → StepLeft (shown_at l b file at) a out → bytes ≡ take a.bytes out
-        → next' ≡ end_of next (line_of k a.refusal bytes a.state.count) text
-        → text' ≡ filled next (line_of k a.refusal bytes a.state.count) text
-        → size ≡ size_at file at → Running l file first text₀ (k + 1) (at + size) (state_of a.state) next' text'
-    running_next {a} {bytes = bytes} s w e f z =
-        let lines = lines_left (line_for_lem k (shown_at l b file at) s w) s.next in
+    pub running_next : (j : Joining) {done : Result ℕ ℕ} {refusal : ℕ} {out bytes : List ℕ} {page' : Page} {size : ℕ} → StepLeft (shown_at l b file at) done (state_of j) out
+        → refusal ≡ refusal_of done → bytes ≡ take (written_by done) out
+        → page' ≡ wrote page (line_of k refusal bytes j.count)
+        → size ≡ size_at file at → Running l file first (k + 1) (at + size) (state_of j) page'
+    running_next j {refusal = refusal} {bytes = bytes} s r₁ w e z =
+        let lines = lines_left (ap (λ (n : ℕ). line_of k n bytes j.count) r₁ ∙ line_for_lem k (shown_at l b file at) j s w) s.next in
         rw z (record {
           inside = running_whole.1;
           count = omega (arith, h);
           good = steps.1;
-          rest = remains_next (line_of k a.refusal bytes a.state.count) (rw lines at r.rest) e f;
+          rest = remains_next (line_of k refusal bytes j.count) (rw lines at r.rest) e;
         })
 
-  pub running_end : step_count file ≤ k → (next ≡ end_of first (step_lines l file) text₀) × (text ≡ filled first (step_lines l file) text₀)
+  pub running_end : step_count file ≤ k → page ≡ wrote first (step_lines l file)
   running_end h =
       let none : step_count file - k ≡ 0 = omega (arith, h) in
       remains_none (rw (ap (λ (n : ℕ). lines_from n k l b file at) none ∙ lines_none k l b file at) at r.rest)

@@ -1,8 +1,7 @@
 -- A frame file: a list of aliases, and the steps that are done with it. Numbers stand high byte first (docs/FRAME-FILES.md).
-use Rattle.std.specs.Prelude.{ℕ, zero, suc, ◌+◌, ◌*◌, Bool, cond, ◌&&◌, ◌||◌, List, eqb, leb, length, get_or, take, drop}
+use Rattle.std.specs.Prelude.{ℕ, zero, suc, ◌+◌, ◌*◌, Bool, cond, ◌&&◌, ◌||◌, List, Option, eqb, leb, length, get_or, take, drop}
 use Rattle.numbers.specs.Numbers.{number_at}
 use Rattle.basics.specs.Lists.{each}
-use Rattle.message.specs.declared.Field.{Field}
 use Rattle.message.specs.declared.Message.{Message}
 use Rattle.message.specs.Reading.{field_at}
 use Rattle.can_rules.specs.Aliases.{Aliases, listed}
@@ -57,7 +56,7 @@ unfoldable pub size_at : List ℕ → ℕ → ℕ
 size_at s at = cond (joins s at) 14 (33 + content_length s at)
 
 -- A mark and its field, which is present where the mark is 1.
-abbrev pub marked_at : List ℕ → ℕ → Field
+abbrev pub marked_at : List ℕ → ℕ → Option ℕ
 marked_at s at = field_at (eqb (get_or s at 0) 1) s (at + 1) 8
 
 unfoldable pub message_at : List ℕ → ℕ → Message

@@ -1,4 +1,5 @@
 pub mod Files
+pub mod Kinds
 pub mod Shown
 pub mod Lines
 pub mod Steps

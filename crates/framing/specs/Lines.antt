@@ -1,15 +1,10 @@
 -- What a frame file prints: a line for each step, or "bad file".
-use Rattle.std.specs.Prelude.{ℕ, zero, suc, ◌+◌, ◌*◌, cond, List, [], ◌∷◌, ◌++◌, length}
-use Rattle.text.specs.Text.{decimal, hex_of, space, new_line, bad_file}
+use Rattle.std.specs.Prelude.{ℕ, zero, suc, ◌+◌, ◌*◌, cond, List, [], ◌++◌, length}
+use Rattle.text.specs.Text.{decimal, hex_of, space, new_line, bad_file, or_dash}
 use Rattle.can_rules.specs.Aliases.{Aliases}
 use Rattle.can_rules.specs.Joining.{Begun}
 use Rattle.framing.specs.Files.{aliases_in, step_count, steps_at, size_at, good_file, most_steps}
 use Rattle.framing.specs.Shown.{Shown, shown_at}
-
--- What is there, or a `-`.
-abbrev pub or_dash : List ℕ → List ℕ
-or_dash [] = 45 ∷ []
-or_dash (x ∷ xs) = x ∷ xs
 
 -- The step's number; the refusal or 0; the bytes; how many senders are unfinished after the step.
 unfoldable pub line_of : ℕ → ℕ → List ℕ → ℕ → List ℕ

@@ -4,7 +4,7 @@ ghost use Rattle.can_rules.specs.Frames.{frame_at};
 ghost use Rattle.framing.specs.Files.{marked_at, message_at};
 
 use can_rules::Frame;
-use message::{Field, Message};
+use message::Message;
 
 pub(crate) fn frame_at(file: &[u8], at: usize) -> Frame
     requires { (at + 13 ≤ length file.now) × (length file.now ≤ 65536) }
@@ -32,13 +32,13 @@ pub(crate) fn message_at(file: &[u8], at: usize) -> Message
 }
 
 // A field that stands behind its mark.
-fn marked_at(file: &[u8], at: usize) -> Field
+fn marked_at(file: &[u8], at: usize) -> Option<u64>
     requires { (at + 9 ≤ length file.now) × (length file.now ≤ 65536) }
     ensures { result ≡ marked_at file.now at }
 {
     if file[at] == 1 {
-        Field::Present(numbers::read_at(file, at + 1, 8))
+        Some(numbers::read_at(file, at + 1, 8))
     } else {
-        Field::Absent
+        None
     }
 }

@@ -1,6 +1,38 @@
 // Whether a frame file is good, and how long its steps are.
-ghost use Rattle.std.specs.Prelude.{◌≡◌, ◌+◌, ◌≤◌, length};
-ghost use Rattle.framing.specs.Files.{size_at, good_split, good_step, good_steps, good_file};
+ghost use Rattle.std.specs.Prelude.{◌≡◌, ◌+◌, ◌≤◌, length, get_or};
+ghost use Rattle.framing.specs.Files.{size_at, good_split, good_steps, good_file};
+ghost use Rattle.framing.specs.Kinds.{number_of, IsKind, IsGood};
+
+// What a step does: a frame is joined, or a message is split.
+#[derive(Clone, Copy)]
+pub(crate) enum Kind {
+    Join,
+    Split,
+}
+
+impl Kind {
+    // The kind of a step with this first byte.
+    pub(crate) fn of(byte: u8) -> Option<Kind>
+        ensures { IsKind result byte }
+    {
+        match byte {
+            1 => Some(Kind::Join),
+            2 => Some(Kind::Split),
+            _ => None,
+        }
+    }
+
+    // How many bytes such a step at a place has.
+    pub(crate) fn size(self, file: &[u8], at: usize) -> usize
+        requires { (length file.now ≤ 65536) × (get_or file.now at 0 ≡ number_of self) }
+        ensures { result ≡ size_at file.now at }
+    {
+        match self {
+            Kind::Join => 14,
+            Kind::Split => 33 + numbers::read_at(file, at + 29, 2) as usize,
+        }
+    }
+}
 
 pub(crate) fn good(file: &[u8]) -> bool
     ensures { result ≡ good_file file.now }
@@ -27,32 +59,28 @@ fn good_steps(file: &[u8], count: usize, start: usize) -> bool
     ensures { result ≡ good_steps count file.now start }
 {
     let mut at = start;
-    let mut left = count;
-    while 0 < left {
-        left -= 1;
-        if !good_step(file, at) {
+    for _k in 0..count {
+        let Some(kind) = good_step(file, at) else {
             return false;
-        }
-        at += size_at(file, at);
+        };
+        at += kind.size(file, at);
     }
     at == file.len()
 }
 
-fn good_step(file: &[u8], at: usize) -> bool
+// The kind of the step at a place, where it is a good one.
+fn good_step(file: &[u8], at: usize) -> Option<Kind>
     requires { (at ≤ length file.now) × (length file.now ≤ 65536) }
-    ensures { result ≡ good_step file.now at }
+    ensures { IsGood result file.now at }
 {
     if file.len() < at + 14 {
-        return false;
+        return None;
     }
-    let step = file[at];
-    if step == 1 {
-        return true;
+    let kind = Kind::of(file[at])?;
+    match kind {
+        Kind::Join => Some(kind),
+        Kind::Split => good_split(file, at).then_some(kind),
     }
-    if step != 2 {
-        return false;
-    }
-    good_split(file, at)
 }
 
 fn good_split(file: &[u8], at: usize) -> bool
@@ -76,15 +104,4 @@ fn good_split(file: &[u8], at: usize) -> bool
         return false;
     }
     numbers::read_at(file, at + 31 + length, 2) <= 512
-}
-
-// How many bytes the step at a place has.
-pub(crate) fn size_at(file: &[u8], at: usize) -> usize
-    requires { (at + 14 ≤ length file.now) × (length file.now ≤ 65536) }
-    ensures { result ≡ size_at file.now at }
-{
-    if file[at] == 1 {
-        return 14;
-    }
-    33 + numbers::read_at(file, at + 29, 2) as usize
 }

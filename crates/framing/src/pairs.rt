@@ -9,11 +9,9 @@ pub(crate) fn load(file: &[u8], count: usize, aliases: &mut [u64], nodes: &mut [
     ensures aliases_after { take count aliases.new ≡ each count (pair_alias file.now) }
     ensures nodes_after { take count nodes.new ≡ each count (pair_node file.now) }
 {
-    let mut i = 0;
-    while i < count {
+    for i in 0..count {
         let at = 1 + i * 10;
         aliases[i] = numbers::read_at(file, at, 2);
         nodes[i] = numbers::read_at(file, at + 2, 8);
-        i += 1;
     }
 }

@@ -20,8 +20,9 @@ use Rattle.basics.specs.Lists.{first_or}
 use Rattle.gateway_rules.specs.Reasons.{Numbered, reason_told, reason_for, by_line, first_holding, event_of}
 use Rattle.gateway.specs.declared.state.Head.{Head}
 use Rattle.gateway.specs.State.{Lists, lines_in, gate_in}
-use Rattle.gateway.specs.declared.asking.WhyAnswer.{WhyAnswer}
-use Rattle.gateway.specs.declared.asking.WhyAnswer.TheVariants.{Because, Refused}
+use Rattle.std.specs.Prelude.{Result, Ok, Err}
+use Rattle.basics.specs.declared.Refusal.{Refusal}
+use Rattle.basics.proofs.Numbers.{refusal_once}
 use Rattle.gateway.specs.Asking.{answer_told}
 use Rattle.gateway_rules.proofs.Asking.{reason_once}
 
@@ -50,11 +51,11 @@ module _ (head : Head) (t : Lists) (q e p : ℕ) where
 -- ---- the answer
 
 -- What is told decides it.
-pub why_once : (x y : WhyAnswer) → answer_told x ≡ answer_told y → x ≡ y
-why_once (Because a) (Because b) e = ap Because (reason_once a b (ap (λ (t : Told (List Numbered)). first_or (reason_told a) (λ n. n) t.value) e))
-why_once (Because a) (Refused n) e = absurd (omega (arith, ap (λ (t : Told (List Numbered)). length t.value) e))
-why_once (Refused n) (Because b) e = absurd (omega (arith, ap (λ (t : Told (List Numbered)). length t.value) e))
-why_once (Refused n) (Refused m) e = ap Refused (ap (λ (t : Told (List Numbered)). t.refusal) e)
+pub why_once : (x y : Result Reason Refusal) → answer_told x ≡ answer_told y → x ≡ y
+why_once (Ok a) (Ok b) e = ap Ok (reason_once a b (ap (λ (t : Told (List Numbered)). first_or (reason_told a) (λ n. n) t.value) e))
+why_once (Ok a) (Err r) e = absurd (omega (arith, ap (λ (t : Told (List Numbered)). length t.value) e))
+why_once (Err r) (Ok b) e = absurd (omega (arith, ap (λ (t : Told (List Numbered)). length t.value) e))
+why_once (Err r) (Err s) e = ap Err (refusal_once r s (ap (λ (t : Told (List Numbered)). t.refusal) e))
 
 -- What is no report has no event.
 pub no_event : (s : Saying) → OneOf (1 ∷ 2 ∷ 3 ∷ 4 ∷ 5 ∷ 6 ∷ []) (tag_of (declared sayings) s) → event_of s ≡ []

@@ -1,5 +1,5 @@
 -- The test of all lines, taken apart by the lists in which their parts stand.
-use Prim.Native.Nat.{ℕ, zero, suc, ◌+◌, ◌/◌, ◌^◌}
+use Prim.Native.Nat.{ℕ, zero, suc, ◌+◌, ◌/◌, ◌^◌, ◌≤◌, ◌<◌}
 use mathlib.Core.Path.{◌≡◌, refl, sym, ap, ap₂, ◌∙◌}
 use mathlib.Core.Bool.{Bool, true, false, not, ◌||◌}
 use mathlib.Core.List.{List, [], ◌∷◌}
@@ -11,7 +11,11 @@ use Rattle.basics.specs.Lists.{any, each}
 use Rattle.basics.proofs.Lists.{any_append}
 use Rattle.gateway_rules.specs.declared.Line.{Line}
 use Rattle.gateway_rules.specs.State.{bad_line}
-use Rattle.gateway.specs.State.{Lists, line_at, lines_in, first_numbers, first_blocks, no_block, not_block}
+use lib.ListN.{length, get_or, take}
+use lib.Seq.{ext_get_or}
+use Rattle.std.proofs.lemmas.List.{get_or-take, length-take-le}
+use Rattle.basics.proofs.Each.{each_length, each_at}
+use Rattle.gateway.specs.State.{Lists, Whole, line_at, lines_in, first_numbers, first_blocks, no_block, not_block}
 
 module _ {A : Type 0} where
   -- One of two tests is passed by some, if the one is or the other is.
@@ -34,7 +38,7 @@ module _ {A : Type 0} where
       ∙ ap (λ (t : Bool). t || any test (part (at n) ∷ [])) (any_part test part n at)
       ∙ sym (any_append test (each n (λ i. part (at i))) (part (at n) ∷ []))
 
-pub bad_lines_parts : (below n : ℕ) (t : Lists)
+bad_lines_parts : (below n : ℕ) (t : Lists)
     → any (bad_line below) (lines_in n t)
     ≡ (any (leb below) (first_numbers n t.ports) || (any bad_node (first_numbers n t.nodes) || any not_block (first_blocks n t.starts t.sizes)))
 bad_lines_parts below n t =
@@ -44,6 +48,19 @@ bad_lines_parts below n t =
     (any_part (leb below) (λ l. l.port) n (line_at t))
     (any_either (λ l. bad_node l.node) no_block lines
     ∙ ap₂ (λ (a b : Bool). a || b) (any_part bad_node (λ l. l.node) n (line_at t)) (any_part not_block (λ l. l.block) n (line_at t)))
+
+first_taken : (n : ℕ) (xs : List ℕ) → n ≤ length xs → first_numbers n xs ≡ take n xs
+first_taken n xs l =
+    ext_get_or 0 (first_numbers n xs) (take n xs) (each_length n (λ i. get_or xs i 0) ∙ sym (length-take-le n xs l))
+    (λ i k. let b : i < n = omega (arith, k, each_length n (λ i. get_or xs i 0)) in each_at n (λ i. get_or xs i 0) 0 i b ∙ sym (get_or-take n xs i 0 b))
+
+-- The same of the fronts of the lists.
+pub bad_lines_taken : (below n : ℕ) (t : Lists) → Whole t → n ≤ 256
+    → any (bad_line below) (lines_in n t) ≡ (any (leb below) (take n t.ports) || (any bad_node (take n t.nodes) || any not_block (first_blocks n t.starts t.sizes)))
+bad_lines_taken below n t w l =
+    bad_lines_parts below n t
+    ∙ ap₂ (λ (ports nodes : List ℕ). any (leb below) ports || (any bad_node nodes || any not_block (first_blocks n t.starts t.sizes)))
+    (first_taken n t.ports (omega (arith, l, w.2))) (first_taken n t.nodes (omega (arith, l, w.0)))
 
 -- ---- what is above six bytes, added up
 

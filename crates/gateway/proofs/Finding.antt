@@ -1,12 +1,12 @@
 -- Where the search ends: the first line of the order that does not stand before a spot has the fields of that spot, or no line has.
 use Prim.Native.Nat.{ℕ, ◌+◌, ◌*◌, ◌≤◌, ◌<◌}
-use mathlib.Core.Path.{◌≡◌, sym, ap, ap₂, ◌∙◌}
+use mathlib.Core.Path.{◌≡◌, refl, ap, ap₂, ◌∙◌}
 use mathlib.Core.Logic.{⊎_elim}
-use mathlib.Core.Bool.{Bool, true, false, ◌&&◌, and-false, false≢true}
+use mathlib.Core.Bool.{Bool, true, false, ◌&&◌, false≢true}
 use mathlib.Core.List.{List}
-use native.Mathlib.Nat.{eq-or-lt_of_le}
+use native.Mathlib.Nat.{eq-or-lt_of_le, le_refl}
 use native.Mathlib.Omega.{arith}
-use borrow.Author.Tests.{eqb-true, eq-eqb, ne_eqb}
+use borrow.Author.Tests.{eqb-true, eq-eqb}
 use lib.Dec.{eqb}
 use lib.ListN.{get_or}
 use Rattle.basics.specs.Sets.{any_below}
@@ -17,14 +17,13 @@ use Rattle.index_rules.specs.Agreeing.{key, Agrees}
 use Rattle.index_rules.proofs.Comparing.{less_or_not}
 use Rattle.index_rules.proofs.Passing.{one_found}
 use Rattle.index_rules.proofs.Order.{further_on, every_named}
-use Rattle.gateway.specs.Indexing.{spot_in, entry_in, placed_in}
-use Rattle.gateway.proofs.Halving.{Halved}
+use Rattle.gateway.specs.Indexing.{spot_in, entry_in, placed_in, Split}
 use Rattle.gateway.proofs.Keys.{Fields}
 
 -- A line at the spot looked for is not passed over, and the first that is not passed over stands at no later one.
-first_there : {spotAt at : ℕ → ℕ} {n x low high : ℕ} → n ≤ 256 → Agrees spotAt n at → Halved (λ i. key spotAt (at i)) n (x * 256 + 0) low high → high ≤ low
+first_there : {spotAt at : ℕ → ℕ} {n x low : ℕ} → n ≤ 256 → Agrees spotAt n at → Split (λ i. key spotAt (at i)) n (x * 256 + 0) low
     → (p : ℕ) → p < n → spotAt p ≡ x → (low < n) × (spotAt (at low) ≡ x)
-first_there {spotAt} {at} {n} {x} {low} small a h met p l e =
+first_there {spotAt} {at} {n} {x} {low} small a h p l e =
     let w = every_named a p l in
     let there = ap spotAt w.names ∙ e in
     ⊎_elim (λ b. absurd (omega (arith, h.under w.place b, there)))
@@ -32,7 +31,7 @@ first_there {spotAt} {at} {n} {x} {low} small a h met p l e =
     let within : low < n = omega (arith, b, w.there) in (
       within,
       ⊎_elim (λ s. ap (λ (i : ℕ). spotAt (at i)) s ∙ there)
-          (λ c. omega (arith, further_on a low w.place c w.there, h.over low met within, a.below low within, w.names, there))
+          (λ c. omega (arith, further_on a low w.place c w.there, h.over low (le_refl low) within, a.below low within, w.names, there))
           (eq-or-lt_of_le b),
     ))
     (less_or_not w.place low)
@@ -43,8 +42,12 @@ fields_of : (port port' : ℕ) {k start number k' start' number' : ℕ} → Fiel
 unfolding spot
 fields_of port port' here there e = (omega arith, omega arith, omega arith)
 
+pub regrouped : (x y z : Bool) → (x && (y && z)) ≡ ((x && y) && z)
+regrouped true y z = refl
+regrouped false y z = refl
+
 module _ (n : ℕ) (starts ports sizes order : List ℕ) (port k start : ℕ) (small : n ≤ 256) (a : Agrees (spot_in starts ports sizes) n (entry_in order))
-    {low high : ℕ} (h : Halved (λ i. key (spot_in starts ports sizes) (entry_in order i)) n (spot port k start * 256 + 0) low high) (met : high ≤ low) where
+    {low : ℕ} (h : Split (λ i. key (spot_in starts ports sizes) (entry_in order i)) n (spot port k start * 256 + 0) low) where
   abbrev placed : ℕ → Bool
   placed i = (eqb (get_or ports i 0) port && eqb (get_or sizes i 0) k) && eqb (get_or starts i 0) start
 
@@ -56,7 +59,7 @@ module _ (n : ℕ) (starts ports sizes order : List ℕ) (port k start : ℕ) (s
       ∙ ap (spot port k) (eqb-true (get_or starts i 0) start s.1)
 
   where_found : any_below n placed ≡ true → (low < n) × (spot_in starts ports sizes (entry_in order low) ≡ spot port k start)
-  where_found t = let f = one_found n placed t in first_there small a h met f.place f.there (at_spot f.place f.passes)
+  where_found t = let f = one_found n placed t in first_there small a h f.place f.there (at_spot f.place f.passes)
 
   -- Past the last line.
   pub past_all : n ≤ low → false ≡ placed_in n starts ports sizes port k start
@@ -72,17 +75,5 @@ module _ (n : ℕ) (starts ports sizes order : List ℕ) (port k start : ℕ) (s
         let f = fields_of (get_or ports i 0) port here looked-for e in
         rw (eq-eqb (get_or ports i 0) port f.0, eq-eqb (get_or sizes i 0) k f.1, eq-eqb (get_or starts i 0) start f.2)
 
-    landed : placed i ≡ placed_in n starts ports sizes port k start
+    pub landed : placed i ≡ placed_in n starts ports sizes port k start
     landed = same_truth (placed i) (any_below n placed) (one_passes n placed i (a.below low l)) (λ t. spot_placed (where_found t).1)
-
-    pub other_port : (get_or ports i 0 ≡ port → ⊥) → false ≡ placed_in n starts ports sizes port k start
-    other_port d = ap (λ (t : Bool). (t && eqb (get_or sizes i 0) k) && eqb (get_or starts i 0) start) (sym (ne_eqb (get_or ports i 0) port d)) ∙ landed
-
-    pub other_size : (get_or sizes i 0 ≡ k → ⊥) → false ≡ placed_in n starts ports sizes port k start
-    other_size d =
-        let p = eqb (get_or ports i 0) port in
-        ap (λ (t : Bool). t && eqb (get_or starts i 0) start) (sym (and-false p) ∙ ap (λ (t : Bool). p && t) (sym (ne_eqb (get_or sizes i 0) k d))) ∙ landed
-
-    pub by_start : get_or ports i 0 ≡ port → get_or sizes i 0 ≡ k → eqb (get_or starts i 0) start ≡ placed_in n starts ports sizes port k start
-    by_start e f =
-        ap₂ (λ (s t : Bool). (s && t) && eqb (get_or starts i 0) start) (sym (eq-eqb (get_or ports i 0) port e)) (sym (eq-eqb (get_or sizes i 0) k f)) ∙ landed

@@ -19,7 +19,7 @@ use Rattle.gateway.specs.declared.state.Head.{Head}
 use Rattle.gateway.specs.declared.LentAnswer.{LentAnswer}
 use Rattle.gateway.specs.State.{Lists, IndexLists, lines_in, gate_in, index_in, box_in, Whole, head_with}
 use Rattle.gateway.specs.Answers.{Seen, seen_lent, seen_of, bad_lengths, bad_index_lengths, bad_lists, lent_step, LentRefusalKeeps, outside}
-use Rattle.gateway.specs.Asking.{lent_why}
+use Rattle.gateway.specs.Asking.{box_why, lent_why}
 use Rattle.gateway.specs.Indexing.{WholeIndex}
 use Rattle.gateway_rules.proofs.Asking.{why_at_7}
 use Rattle.gateway.proofs.Stepping.{step_at_7}
@@ -40,6 +40,11 @@ pub whole_index : (x : IndexLists) → bad_index_lengths (length x.order) (lengt
 whole_index x e =
     let u = neither (not (eqb (length x.order) 256)) (not (eqb (length x.sets) 9)) e in
     (is_long x.order 256 u.0, is_long x.sets 9 u.1)
+
+-- A box whose index is right is asked of its gate alone.
+pub right_why : (b : Box) (q p : ℕ) (bytes : List ℕ) → Right b → box_why b q p bytes ≡ why_told b.gate q p bytes
+right_why b q p bytes r =
+    ap (λ (y : Bool). cond y (refused 7 []) (why_told b.gate q p bytes)) (ap (λ (y : Index). strays y b.gate.lines) r ∙ strays_not b.gate.lines)
 
 -- ---- a state that is 7, and one that is not
 
@@ -117,9 +122,12 @@ module _ (head : Head) (t : Lists) (x : IndexLists) where
     pub whole_step : Whole t → WholeIndex x → Right (box_in head t x) → lent_step head t x q bytes ≡ step (gate_in head t) q bytes
     whole_step w v r = whole_box w v ∙ gate_alone_step (box_in head t x) q bytes r
 
-    pub whole_why : (p : ℕ) → Whole t → WholeIndex x → Right (box_in head t x) → lent_why head t x q p bytes ≡ why_told (gate_in head t) q p bytes
+    pub whole_asked : (p : ℕ) → Whole t → WholeIndex x → lent_why head t x q p bytes ≡ box_why (box_in head t x) q p bytes
     unfolding gate_in
-    whole_why p w v r = ap₂ (λ (y z : Bool). cond (y || z) (refused 7 []) (why_told (gate_in head t) q p bytes)) (not_bad w v) (ap (λ (y : Index). strays y (lines_in head.count t)) r ∙ strays_not (lines_in head.count t))
+    whole_asked p w v = ap (λ (y : Bool). cond (y || stray) (refused 7 []) (why_told (gate_in head t) q p bytes)) (not_bad w v)
+
+    pub whole_why : (p : ℕ) → Whole t → WholeIndex x → Right (box_in head t x) → lent_why head t x q p bytes ≡ why_told (gate_in head t) q p bytes
+    whole_why p w v r = whole_asked p w v ∙ right_why (box_in head t x) q p bytes r
 
     -- A refusal that the step gives, and that leaves the index.
     pub refusal_given : (r : LentAnswer) (n : ℕ) → (r.refusal ≡ n) × (r.sent ≡ 0) × (r.marks ≡ head.marks) × (r.count ≡ head.count)
@@ -149,6 +157,9 @@ module _ (head : Head) (t : Lists) (x : IndexLists) where
 
 pub right_next : (b : Box) (q : ℕ) (bytes : List ℕ) {s : Seen} → Right b → s ≡ seen_of b.index (box_step b q bytes) → s.index ≡ index_of s.gate.lines
 right_next b q bytes r e = ap (λ (s : Seen). s.index) e ∙ index_next b q bytes r ∙ sym (ap (λ (s : Seen). index_of s.gate.lines) e)
+
+pub gate_next : (b : Box) (q : ℕ) (bytes : List ℕ) {s : Seen} → Right b → s ≡ seen_of b.index (box_step b q bytes) → s.gate ≡ (step b.gate q bytes).next
+gate_next b q bytes r e = ap (λ (s : Seen). s.gate) e ∙ ap (λ (o : Outcome). o.next) (gate_alone_step b q bytes r)
 
 -- The same on lent lists.
 pub right_left : (head : Head) (t : Lists) (x : IndexLists) (q : ℕ) (bytes : List ℕ) (a : LentAnswer) (u : Lists) (y : IndexLists) → Whole t → WholeIndex x → Right (box_in head t x)

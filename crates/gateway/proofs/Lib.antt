@@ -9,7 +9,6 @@ mod Firsts
 mod Fitting
 mod Following
 mod Going
-mod Halving
 mod InBounds
 mod Kept
 mod Keys
@@ -22,6 +21,7 @@ mod Occurring
 pub mod PastTheCount
 mod Places
 mod PortByPort
+mod Same
 mod SameNumbers
 mod Sends
 mod SizePut

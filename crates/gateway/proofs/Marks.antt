@@ -2,10 +2,9 @@
 use Prim.Native.Nat.{ℕ, ◌+◌, ◌*◌, ◌/◌, ◌%◌, ◌^◌, ◌≤◌, ◌<◌}
 use mathlib.Core.Path.{◌≡◌, refl, sym, ap, ap₂, ◌∙◌}
 use mathlib.Core.Bool.{Bool, true, false, ◌||◌, or_comm}
-use mathlib.Core.List.{List, [], ◌∷◌, ◌++◌}
 use native.Mathlib.Nat.{le_trans}
 use native.Mathlib.Omega.{arith}
-use borrow.Author.Tests.{eq-eqb, eqb-false, eqb-true, leb-true, leb-false, le-ltb, lt-ltb, ne_eqb}
+use borrow.Author.Tests.{eq-eqb, eqb-false, eqb-true, leb-true, leb-false, le-ltb, ne_eqb}
 use lib.Dec.{eqb, leb, ltb}
 use lib.ListN.{length}
 use lib.Pow.{pow_mono, high}
@@ -14,11 +13,10 @@ use Rattle.basics.specs.Sets.{set_of, in_set}
 use Rattle.basics.proofs.Lists.{fewer_without}
 use Rattle.gateway_rules.specs.declared.Line.{Line}
 use Rattle.gateway.specs.declared.state.Head.{Head}
-use Rattle.gateway.specs.State.{Lists, gate_in, line_at, Whole, head_with, lines_in, put_at}
-use Rattle.gateway_rules.specs.Step.{held_by, covered, holds_some, with_lines, replacing, storing, announce}
+use Rattle.gateway.specs.State.{Lists, gate_in, line_at, head_with, lines_in}
+use Rattle.gateway_rules.specs.Step.{held_by, covered, holds_some, replacing, storing, announce}
 use Rattle.basics.proofs.Sets.{set_below, member_of_set}
 use Rattle.gateway_rules.proofs.Changes.{covered_keeps, holding_replaces, new_stores}
-use Rattle.gateway.proofs.Places.{put_last}
 use Rattle.basics.proofs.Each.{each_length}
 
 -- ---- the marks with one more
@@ -50,11 +48,6 @@ one_more_mark marks q m l p = go (leb 8 p) refl
         no_bit_past p (set_of 8 put) far (set_below 8 put) ∙ sym (ap₂ (λ (s t : Bool). s || t) (ne_eqb p q (λ z. omega (arith, z, l, far))) (no_bit_past p marks far m))
     go false e = member_of_set 8 put p (leb-false 8 p e) ∙ or_comm (in_set marks p) (eqb q p) ∙ ap (λ (t : Bool). t || in_set marks p) (eqb_turned q p)
 
--- ---- nothing changed
-
-pub left_alone : (head : Head) (t : Lists) (marks count : ℕ) → (marks ≡ head.marks) × (count ≡ head.count) → gate_in (head_with head marks count) t ≡ gate_in head t
-left_alone head t marks count (m, n) = λ i. gate_in (head_with head (m i) (n i)) t
-
 -- ---- the cases of an announcement
 
 module _ (head : Head) (t : Lists) (l : Line) where
@@ -80,20 +73,6 @@ module _ (head : Head) (t : Lists) (l : Line) where
         ap length e,
         fewer_without (held_by l) (lines_in head.count t) y,
       )
-
-  pub replaced_lines : (after last : Lists) (kept : ℕ) → Whole after → lines_in kept after ≡ without (held_by l) (lines_in head.count t) → kept < 256 → last ≡ put_at kept l after
-      → gate_in (head_with head head.marks (kept + 1)) last ≡ replacing (gate_in head t) l
-  unfolding gate_in
-  replaced_lines after last kept w e f p =
-      ap (with_lines (gate_in head t)) (ap (lines_in (kept + 1)) p ∙ put_last kept after l w f ∙ ap (λ (lines : List Line). lines ++ (l ∷ [])) e)
-
-  pub added_line : (after : Lists) → Whole t → head.count < 256 → after ≡ put_at head.count l t
-      → gate_in (head_with head head.marks (head.count + 1)) after ≡ storing (gate_in head t) l
-  unfolding gate_in
-  added_line after w f e =
-      let room : ltb (length (lines_in head.count t)) 256 ≡ true = ap (λ (k : ℕ). ltb k 256) (each_length head.count (line_at t)) ∙ lt-ltb head.count 256 f in
-      let lines = ap (lines_in (head.count + 1)) e ∙ put_last head.count t l w f in
-      rw room (ap (with_lines (gate_in head t)) lines)
 
   pub opened_port : (marks : ℕ) → 256 ≤ head.count → head.marks < 256 → l.port < 8
       → marks ≡ set_of 8 (λ p. in_set head.marks p || eqb l.port p)

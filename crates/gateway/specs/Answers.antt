@@ -1,5 +1,5 @@
 -- What the code's answer says: the refusal, the set of ports as a number, and the state without the places past the count.
-use Rattle.std.specs.Prelude.{ℕ, ◌≡◌, Bool, true, false, cond, not, ◌||◌, List, eqb, length}
+use Rattle.std.specs.Prelude.{ℕ, ◌≡◌, Bool, true, false, cond, not, ◌||◌, List, Option, None, Some, eqb, length}
 use Rattle.range.specs.declared.Block.{Block}
 use Rattle.range.specs.Range.{is_block, in_block}
 use Rattle.basics.specs.Lists.{any}
@@ -15,8 +15,6 @@ use Rattle.gateway.specs.declared.Answer.{Answer}
 use Rattle.gateway.specs.declared.LentAnswer.{LentAnswer}
 use Rattle.gateway.specs.declared.state.Head.{Head}
 use Rattle.gateway.specs.declared.state.Gateway.{Gateway}
-use Rattle.gateway.specs.declared.wanting.Asked.{Asked}
-use Rattle.gateway.specs.declared.wanting.Asked.TheVariants.{Everyone, Holders}
 use Rattle.gateway.specs.declared.lines.Gone.{Gone}
 use Rattle.gateway.specs.declared.lines.Gone.TheVariants.{OfNode, HeldBy}
 use Rattle.gateway.specs.declared.lines.Standing.{Standing}
@@ -39,6 +37,10 @@ seen_of x o = record { refusal = o.refusal; sent = set_of 8 o.to; gate = o.next;
 -- A refusal leaves the whole state as it was, the places past the count too (document 01, "Refusal numbers": state and slots stay as before).
 abbrev pub RefusalKeeps : Gateway → Answer → Type 0
 RefusalKeeps g a = (a.refusal ≡ 0 → ⊥) → a.gateway ≡ g
+
+-- The same of the box in one place, beside what it answers.
+abbrev pub seen_held : LentAnswer → Gateway → Seen
+seen_held a g = record { refusal = a.refusal; sent = a.sent; gate = gate_of g; index = (box_of g).index }
 
 -- ---- the same on lent lists
 
@@ -72,24 +74,24 @@ outside h t x = bad_lists t x || (out_of_bounds (gate_in h t) || strays (index_i
 abbrev pub wanted_by : Gate → Saying → ℕ
 wanted_by g s = set_of 8 (λ p. wanted_at g p s)
 
--- Who wants what is said: of a report that is not automatic those who have a line that holds its event, of all else everyone.
-abbrev pub asked_by : Block → Saying → Asked
-asked_by automatic (Report e) = cond (in_block automatic e) Everyone (Holders e)
-asked_by automatic (Announcement b) = Everyone
-asked_by automatic Restart = Everyone
-asked_by automatic (Inquiry role e) = Everyone
-asked_by automatic (InquiryForAll destination) = Everyone
-asked_by automatic (Learn e) = Everyone
-asked_by automatic Nothing = Everyone
+-- The event that the lines are asked for: that of a report that is not automatic. All else every port wants.
+abbrev pub looked_up_in : Block → Saying → Option ℕ
+looked_up_in automatic (Report e) = cond (in_block automatic e) None (Some e)
+looked_up_in automatic (Announcement b) = None
+looked_up_in automatic Restart = None
+looked_up_in automatic (Inquiry role e) = None
+looked_up_in automatic (InquiryForAll destination) = None
+looked_up_in automatic (Learn e) = None
+looked_up_in automatic Nothing = None
 
 -- The ports of a set, and those that have a line that holds the event.
 abbrev pub holding : ℕ → ℕ → List Line → ℕ
 holding set e lines = set_of 8 (λ p. in_set set p || any (line_holds p e) lines)
 
--- The ports that want what is said, once it is known who is asked.
-abbrev pub wanted_of : ℕ → List Line → Asked → ℕ
-wanted_of marks lines Everyone = 255
-wanted_of marks lines (Holders e) = holding marks e lines
+-- The ports that want what is said, once it is known what is looked up.
+abbrev pub wanted_of : ℕ → List Line → Option ℕ → ℕ
+wanted_of marks lines None = 255
+wanted_of marks lines (Some e) = holding marks e lines
 
 -- What is announced is a block.
 abbrev pub AnnouncesBlock : Saying → Type 0

@@ -1,12 +1,13 @@
 -- The index in the code's lists: the order's numbers, and what they and the sets are asked.
-use Rattle.std.specs.Prelude.{ℕ, ◌≤◌, ◌<◌, ◌≡◌, Bool, true, ◌&&◌, ◌||◌, List, eqb, length, get_or}
+use Rattle.std.specs.Prelude.{ℕ, ◌+◌, ◌^◌, ◌≤◌, ◌<◌, ◌≡◌, Bool, true, false, ◌&&◌, ◌||◌, List, eqb, length, get_or}
 use Rattle.range.specs.declared.Block.{Block}
 use Rattle.range.specs.Range.{is_block, in_block}
 use Rattle.basics.specs.Sets.{any_below}
 use Rattle.index_rules.specs.Index.{spot, size_sets}
 use Rattle.index_rules.specs.Agreeing.{Agrees, Lowered}
-use Rattle.gateway.specs.State.{Lists, IndexLists}
-use Rattle.gateway_rules.specs.State.{full}
+use Rattle.gateway.specs.declared.state.Gateway.{Gateway}
+use Rattle.gateway.specs.State.{Lists, IndexLists, lists_of, index_lists_of, gate_of}
+use Rattle.gateway_rules.specs.State.{full, out_of_bounds}
 
 -- The spot of the line at a place.
 abbrev pub spot_in : List ℕ → List ℕ → List ℕ → ℕ → ℕ
@@ -55,6 +56,28 @@ pub record Indexed (n : ℕ) (starts ports sizes order sets : List ℕ) : Type 0
 abbrev pub IndexFits : ℕ → Lists → IndexLists → Type 0
 IndexFits n t x = Indexed n t.starts t.ports t.sizes x.order x.sets
 
+-- ---- of the state
+
+abbrev pub spots_of : Gateway → ℕ → ℕ
+spots_of g = spot_in g.starts g.ports g.sizes
+
+-- A line is for a port, of a size, and begins with an event; one is for a port and holds an event.
+abbrev pub placed_at : Gateway → ℕ → ℕ → ℕ → Bool
+placed_at g = placed_in g.head.count g.starts g.ports g.sizes
+
+abbrev pub held_in : Gateway → ℕ → ℕ → Bool
+held_in g = holding_in g.head.count g.starts g.ports g.sizes
+
+-- The index is that of the lines.
+abbrev pub Fits : Gateway → Type 0
+Fits g = IndexFits g.head.count (lists_of g) (index_lists_of g)
+
+-- The state is in bounds, with the index of its lines, and what they begin with are events.
+pub record Sound (g : Gateway) : Type 0 where
+  pub in_bounds : out_of_bounds (gate_of g) ≡ false
+  pub index_fits : Fits g
+  pub events : (i : ℕ) → get_or g.starts i 0 < 2 ^ 64
+
 -- The order has 256 places, and there are nine sets.
 abbrev pub WholeIndex : IndexLists → Type 0
 WholeIndex x = (length x.order ≡ full) × (length x.sets ≡ 9)
@@ -64,6 +87,18 @@ WholeIndex x = (length x.order ≡ full) × (length x.sets ≡ 9)
 -- A size is put into the sets at a port.
 pub record SizePut (p k : ℕ) (before after : List ℕ) : Type 0 where
   pub put : (occursAt : ℕ → ℕ → Bool) → before ≡ size_sets occursAt → after ≡ size_sets (λ q j. occursAt q j || (eqb p q && eqb k j))
+
+-- So many of the first n numbers are below a bound, and the others are not.
+pub record Split (at : ℕ → ℕ) (n bound place : ℕ) : Type 0 where
+  pub within : place ≤ n
+  pub under : (i : ℕ) → i < place → at i < bound
+  pub over : (i : ℕ) → place ≤ i → i < n → bound ≤ at i
+
+-- The number n stands at a place, and those of the first n from there on have moved up.
+pub record PutIn (n place : ℕ) (before after : List ℕ) : Type 0 where
+  pub front : (i : ℕ) → i < place → get_or after i 0 ≡ get_or before i 0
+  pub here : get_or after place 0 ≡ n
+  pub back : (i next : ℕ) → i + 1 ≡ next → place ≤ i → i < n → get_or after next 0 ≡ get_or before i 0
 
 -- Each of the first n numbers is below n, and is not lowered below 0.
 pub record Lowerable (n : ℕ) (order falls : List ℕ) : Type 0 where

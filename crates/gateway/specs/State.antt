@@ -10,7 +10,6 @@ use Rattle.index_rules.specs.Index.{Index}
 use Rattle.index_rules.specs.Boxes.{Box}
 use Rattle.gateway.specs.declared.state.Head.{Head}
 use Rattle.gateway.specs.declared.state.Gateway.{Gateway}
-use Rattle.gateway.specs.declared.step.Left.{Left}
 
 -- The lists that the lines stand in. At place i are line i's Node ID, its block's start and k, and its port.
 pub record Lists : Type 0 where
@@ -42,6 +41,9 @@ gate_in h t = record { ports = h.ports; automatic = h.automatic; lines = lines_i
 abbrev pub lists_of : Gateway → Lists
 lists_of g = lists g.nodes g.starts g.ports g.sizes
 
+abbrev pub lines_of : Gateway → List Line
+lines_of g = lines_in g.head.count (lists_of g)
+
 abbrev pub gate_of : Gateway → Gate
 gate_of g = gate_in g.head (lists_of g)
 
@@ -69,10 +71,6 @@ box_of g = box_in g.head (lists_of g) (index_lists_of g)
 -- The head with other open marks and another line count: the rest of it never changes.
 abbrev pub head_with : Head → ℕ → ℕ → Head
 head_with h marks count = record { ports = h.ports; marks = marks; automatic = h.automatic; count = count }
-
--- The state that a message leaves.
-abbrev pub gate_after : Head → Left → Lists → Gate
-gate_after h r t = gate_in (head_with h r.marks r.count) t
 
 -- Out of bounds but for the lines.
 abbrev pub bad_head : Head → Bool

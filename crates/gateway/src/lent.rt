@@ -1,10 +1,12 @@
 // The box on lent lists: the lines and their index stand in the caller's lists, and change there.
 ghost use Rattle.std.specs.Prelude.{◌≡◌};
+ghost use Rattle.basics.specs.Refusals.{refusal_number};
 ghost use Rattle.gateway.specs.State.{index_in, lists, index_lists};
 ghost use Rattle.gateway.specs.Answers.{seen_lent, seen_of, lent_step, LentRefusalKeeps};
 
-use crate::{Head, LentAnswer, bounds, port_sets, step, wanting};
-use message::Reading;
+use crate::table::Table;
+use crate::{Head, LentAnswer, bounds, port_sets};
+use basics::Refusal;
 
 // A message at a port. A list that is not of 256 places, and sets that are not nine, are refusal 7.
 pub fn receive_lent(
@@ -22,35 +24,43 @@ pub fn receive_lent(
     ensures lent_refusal_keeps { LentRefusalKeeps head (lists nodes.old starts.old ports.old sizes.old) (index_lists order.old sets.old) result (lists nodes.new starts.new ports.new sizes.new) (index_lists order.new sets.new) }
 {
     if bounds::bad_state(head, nodes, starts, ports, sizes, order, sets) {
-        return refused(head, 7);
+        return refused(head, Refusal::OutOfBounds);
     }
     if head.ports <= port {
-        return refused(head, 8);
+        return refused(head, Refusal::NoSuchPort);
     }
+    // Document 01 names this form for the read answer.
     let reading = message::read(bytes);
-    let Reading::Read(m) = reading else {
-        return refused(head, message::refused_with(reading));
+    let Ok(m) = reading else {
+        return refused(head, reading.unwrap_err());
     };
     let saying = message::said_by(m);
-    let wanted = wanting::wanted(head, nodes, starts, ports, sizes, order, sets, saying);
+    let mut table = Table {
+        head,
+        nodes,
+        starts,
+        ports,
+        sizes,
+        order,
+        sets,
+    };
+    let wanted = table.view().wanted(saying);
     let sent = port_sets::others(wanted, head.ports, port);
-    let left = step::hear(
-        head, nodes, starts, ports, sizes, order, sets, port, m.source, saying,
-    );
+    table.hear(port, m.source, saying);
     LentAnswer {
         refusal: 0,
         sent,
-        marks: left.marks,
-        count: left.count,
+        marks: table.head.marks,
+        count: table.head.count,
     }
 }
 
 // Sent nowhere, with the state as it was.
-fn refused(head: Head, number: u8) -> LentAnswer
-    ensures { (result.refusal ≡ number) × (result.sent ≡ 0) × (result.marks ≡ head.marks) × (result.count ≡ head.count) }
+fn refused(head: Head, refusal: Refusal) -> LentAnswer
+    ensures { (result.refusal ≡ refusal_number refusal) × (result.sent ≡ 0) × (result.marks ≡ head.marks) × (result.count ≡ head.count) }
 {
     LentAnswer {
-        refusal: number,
+        refusal: u8::from(refusal),
         sent: 0,
         marks: head.marks,
         count: head.count,

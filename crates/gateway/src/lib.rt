@@ -3,6 +3,7 @@
 
 mod asking;
 mod bounds;
+mod held;
 mod index;
 mod lent;
 mod lines;
@@ -23,11 +24,12 @@ ghost use Rattle.index_rules.specs.Boxes.{box_step};
 ghost use Rattle.gateway.specs.State.{box_of};
 ghost use Rattle.gateway.specs.Answers.{seen_in, seen_of, RefusalKeeps};
 
-pub use asking::{WhyAnswer, why};
+pub use asking::why;
+use basics::Refusal;
 pub use lent::receive_lent;
 pub use state::{Gateway, Head};
 
-// The refusal or 0, the set of ports it is sent to, bit p for port p, and the next state.
+// The refusal or 0, the set of ports it is sent to, bit p for port p, and the next state: the struct that C gets.
 #[repr(C)]
 #[derive(Drop)]
 pub struct Answer {
@@ -36,7 +38,7 @@ pub struct Answer {
     pub gateway: Gateway,
 }
 
-// The same where the lines and their index stand in lent lists: the open marks and the line count are what else can change.
+// The same, for C too, where the lines and their index stand in lent lists: the open marks and the line count are what else can change.
 #[repr(C)]
 #[derive(Clone, Copy)]
 pub struct LentAnswer {
@@ -52,7 +54,7 @@ pub fn start(ports: u8, r: u64) -> Answer
 {
     if bounds::bad_ports(ports) {
         return Answer {
-            refusal: 8,
+            refusal: u8::from(Refusal::NoSuchPort),
             sent: 0,
             gateway: empty(0, r),
         };
@@ -83,46 +85,16 @@ fn empty(ports: u8, r: u64) -> Gateway
     }
 }
 
-// A message at a port. The state by value: its lists are lent, and given back in the answer.
+// A message at a port. The state by value: it goes in and comes back in the answer.
 pub fn receive(gateway: Gateway, port: u8, bytes: &[u8]) -> Answer
     ensures result_value { seen_in result ≡ seen_of (box_of gateway).index (box_step (box_of gateway) port bytes.now) }
     ensures refusal_keeps { RefusalKeeps gateway result }
 {
-    let head = gateway.head;
-    let automatic = head.automatic;
-    let mut nodes = gateway.nodes;
-    let mut starts = gateway.starts;
-    let mut ports = gateway.ports;
-    let mut sizes = gateway.sizes;
-    let mut order = gateway.order;
-    let mut sets = gateway.sets;
-    let a = receive_lent(
-        head,
-        &mut nodes,
-        &mut starts,
-        &mut ports,
-        &mut sizes,
-        &mut order,
-        &mut sets,
-        port,
-        bytes,
-    );
+    let mut next = gateway;
+    let a = next.hear(port, bytes);
     Answer {
         refusal: a.refusal,
         sent: a.sent,
-        gateway: Gateway {
-            head: Head {
-                ports: head.ports,
-                marks: a.marks,
-                automatic,
-                count: a.count,
-            },
-            nodes,
-            starts,
-            ports,
-            sizes,
-            order,
-            sets,
-        },
+        gateway: next,
     }
 }

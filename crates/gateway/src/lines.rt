@@ -1,49 +1,17 @@
 // The lines of the table, which stand in four lists.
 ghost use Rattle.std.specs.Prelude.{◌≡◌, ◌⊎◌, true, false, [], ◌∷◌, ◌≤◌, ◌<◌, length};
 ghost use Rattle.index_rules.specs.Agreeing.{Falls};
-ghost use Rattle.range.specs.Range.{is_block};
+ghost use Rattle.range.specs.Range.{is_block, in_block};
 ghost use Rattle.gateway_rules.specs.Step.{within as within_of};
 ghost use Rattle.basics.specs.Lists.{any, without};
 ghost use Rattle.gateway.specs.Answers.{stands_as, goes_by, Comparable};
 ghost use Rattle.gateway.specs.Indexing.{Level};
-ghost use Rattle.gateway.specs.State.{Whole, line_at, lines_in, put_at, no_block, lists};
+ghost use Rattle.gateway.specs.State.{line_at, lines_in, lines_of, lists_of, no_block};
+ghost use Rattle.gateway.specs.Lent.{state_in, state_seen, SameBox, PutAt, SameIndex};
 
+use crate::table::{Table, TableView};
 use gateway_rules::Line;
 use range::{Block, Comparison};
-
-pub(crate) fn line_at(nodes: &[u64], starts: &[u64], ports: &[u8], sizes: &[u8], i: usize) -> Line
-    requires whole { Whole (lists nodes.now starts.now ports.now sizes.now) }
-    requires i_bound { i < 256 }
-    ensures { result ≡ line_at (lists nodes.now starts.now ports.now sizes.now) i }
-{
-    Line {
-        port: ports[i],
-        node: nodes[i],
-        block: Block {
-            start: starts[i],
-            k: sizes[i],
-        },
-    }
-}
-
-pub(crate) fn put_line(
-    nodes: &mut [u64],
-    starts: &mut [u64],
-    ports: &mut [u8],
-    sizes: &mut [u8],
-    i: usize,
-    l: Line,
-)
-    requires whole { Whole (lists nodes.old starts.old ports.old sizes.old) }
-    requires i_bound { i < 256 }
-    ensures { lists nodes.new starts.new ports.new sizes.new ≡ put_at i l (lists nodes.old starts.old ports.old sizes.old) }
-{
-    let block = l.block;
-    nodes[i] = l.node;
-    starts[i] = block.start;
-    ports[i] = l.port;
-    sizes[i] = block.k;
-}
 
 // How a line stands to those of the table: inside one, else holding some, else new (document 02, W4).
 #[derive(Clone, Copy)]
@@ -53,43 +21,107 @@ pub(crate) enum Standing {
     New,
 }
 
-pub(crate) fn looked_for(
-    count: usize,
-    nodes: &[u64],
-    starts: &[u64],
-    ports: &[u8],
-    sizes: &[u8],
-    l: Line,
-) -> Standing
-    requires count_bound { count ≤ 256 }
-    requires whole { Whole (lists nodes.now starts.now ports.now sizes.now) }
-    requires block_value { is_block l.block ≡ true }
-    requires sizes_value { any no_block (lines_in count (lists nodes.now starts.now ports.now sizes.now)) ≡ false }
-    ensures { result ≡ stands_as (lines_in count (lists nodes.now starts.now ports.now sizes.now)) l }
-{
-    let mut holding = false;
-    let mut i = 0;
-    while i < count {
-        let x = line_at(nodes, starts, ports, sizes, i);
-        // Of another node's line nothing else is asked.
-        if x.node != l.node {
-            i += 1;
-            continue;
+// Which lines are taken out: those of a node, or those that a line holds.
+#[derive(Clone, Copy)]
+pub(crate) enum Gone {
+    OfNode(u64),
+    HeldBy(Line),
+}
+
+// In place of a fall: no number falls so far.
+const GONE: u16 = 256;
+
+impl TableView<'_> {
+    pub(crate) fn line_at(&self, i: usize) -> Line
+        requires { i < 256 }
+        ensures { result ≡ line_at (lists_of (state_seen self.now)) i }
+    {
+        Line {
+            port: self.ports[i],
+            node: self.nodes[i],
+            block: Block {
+                start: self.starts[i],
+                k: self.sizes[i],
+            },
         }
-        if within(l, x) {
-            return Standing::Covered;
-        }
-        if within(x, l) {
-            holding = true;
-            i += 1;
-            continue;
-        }
-        i += 1;
     }
-    if holding {
-        Standing::Holding
-    } else {
-        Standing::New
+
+    pub(crate) fn looked_for(&self, l: Line) -> Standing
+        requires block_value { is_block l.block ≡ true }
+        requires blocks { any no_block (lines_of (state_seen self.now)) ≡ false }
+        ensures { result ≡ stands_as (lines_of (state_seen self.now)) l }
+    {
+        let mut holding = false;
+        for i in 0..self.head.count {
+            let x = self.line_at(i);
+            // Of another node's line nothing else is asked.
+            if x.node != l.node {
+                continue;
+            }
+            if within(l, x) {
+                return Standing::Covered;
+            }
+            if within(x, l) {
+                holding = true;
+            }
+        }
+        if holding {
+            Standing::Holding
+        } else {
+            Standing::New
+        }
+    }
+
+    // How many lines stand before the first that goes; the count where none goes.
+    fn before_gone(&self, gone: Gone) -> usize
+        requires { Comparable gone (lines_of (state_seen self.now)) }
+        ensures upper_bound { (result ≤ self.now.head.count) × (any (goes_by gone) (lines_in result (lists_of (state_seen self.now))) ≡ false) }
+        ensures fact { (result ≡ self.now.head.count) ⊎ (goes_by gone (line_at (lists_of (state_seen self.now)) result) ≡ true) }
+    {
+        for i in 0..self.head.count {
+            if goes(self.line_at(i), gone) {
+                return i;
+            }
+        }
+        self.head.count
+    }
+}
+
+impl Table<'_> {
+    pub(crate) fn put_line(&mut self, i: usize, l: Line)
+        requires { i < 256 }
+        ensures same { SameBox self.old self.new }
+        ensures put { PutAt i l (state_in self.old) (state_in self.new) }
+    {
+        self.nodes[i] = l.node;
+        self.starts[i] = l.block.start;
+        self.ports[i] = l.port;
+        self.sizes[i] = l.block.k;
+    }
+
+    // One pass, the rest keeping their order: it goes on where the first that goes was found, and writes each that stays behind it once, and by how much its number falls.
+    pub(crate) fn take_out(&mut self, falls: &mut [u16; 256], gone: Gone)
+        requires level { Level falls.old }
+        requires comparable { Comparable gone (lines_of (state_in self.old)) }
+        ensures same { SameBox self.old self.new }
+        ensures marks { self.new.head.marks ≡ self.old.head.marks }
+        ensures index { SameIndex (state_in self.old) (state_in self.new) }
+        ensures lines { lines_of (state_in self.new) ≡ without (goes_by gone) (lines_of (state_in self.old)) }
+        ensures falls { Falls (λ p. goes_by gone (line_at (lists_of (state_in self.old)) p)) self.old.head.count falls.new }
+    {
+        let first = self.view().before_gone(gone);
+        let mut j = first;
+        for place in first..self.head.count {
+            let l = self.view().line_at(place);
+            if goes(l, gone) {
+                falls[place] = GONE;
+                continue;
+            }
+            self.put_line(j, l);
+            falls[place] = (place - j) as u16;
+            j += 1;
+        }
+        self.head.count = j;
     }
 }
 
@@ -98,92 +130,24 @@ fn within(a: Line, b: Line) -> bool
     requires { (is_block a.block ≡ true) × (is_block b.block ≡ true) }
     ensures { result ≡ within_of a b }
 {
-    let x = a.block;
-    let y = b.block;
     if a.port != b.port {
         return false;
     }
     if a.node != b.node {
         return false;
     }
-    match range::compare(x, y) {
-        Comparison::Equal => true,
-        Comparison::FirstInside => true,
-        Comparison::SecondInside => false,
-        Comparison::Apart => false,
-        Comparison::NoBlock => false,
-    }
+    matches!(
+        range::compare(a.block, b.block),
+        Ok(Comparison::Equal | Comparison::FirstInside)
+    )
 }
 
-// In place of a fall: no number falls so far.
-const GONE: u16 = 256;
-
-// Which lines are taken out: those of a node, or those that a line holds.
-#[derive(Clone, Copy)]
-pub(crate) enum Gone {
-    OfNode(u64),
-    HeldBy(Line),
-}
-
-// One pass, the rest keeping their order: it goes on where the first that goes was found, and writes each that stays behind it once, and by how much its number falls.
-pub(crate) fn take_out(
-    count: usize,
-    nodes: &mut [u64],
-    starts: &mut [u64],
-    ports: &mut [u8],
-    sizes: &mut [u8],
-    falls: &mut [u16],
-    gone: Gone,
-) -> usize
-    requires count_bound { count ≤ 256 }
-    requires whole { Whole (lists nodes.old starts.old ports.old sizes.old) }
-    requires falls_len { (length falls.old ≡ 256) × Level falls.old }
-    requires comparable { Comparable gone (lines_in count (lists nodes.old starts.old ports.old sizes.old)) }
-    ensures sizes_value { lines_in result (lists nodes.new starts.new ports.new sizes.new) ≡ without (goes_by gone) (lines_in count (lists nodes.old starts.old ports.old sizes.old)) }
-    ensures falls { Falls (λ p. goes_by gone (line_at (lists nodes.old starts.old ports.old sizes.old) p)) count falls.new }
+// Whether an event is one of a block's.
+pub(crate) fn holds(block: Block, e: u64) -> bool
+    requires { is_block block ≡ true }
+    ensures { result ≡ in_block block e }
 {
-    let first = before_gone(count, nodes, starts, ports, sizes, gone);
-    let mut i = first;
-    let mut j = first;
-    while i < count {
-        let place = i;
-        let l = line_at(nodes, starts, ports, sizes, place);
-        i += 1;
-        if goes(l, gone) {
-            falls[place] = GONE;
-            continue;
-        }
-        put_line(nodes, starts, ports, sizes, j, l);
-        falls[place] = (place - j) as u16;
-        j += 1;
-    }
-    j
-}
-
-// How many lines stand before the first that goes; the count where none goes.
-fn before_gone(
-    count: usize,
-    nodes: &[u64],
-    starts: &[u64],
-    ports: &[u8],
-    sizes: &[u8],
-    gone: Gone,
-) -> usize
-    requires count_bound { count ≤ 256 }
-    requires whole { Whole (lists nodes.now starts.now ports.now sizes.now) }
-    requires comparable { Comparable gone (lines_in count (lists nodes.now starts.now ports.now sizes.now)) }
-    ensures upper_bound { (result ≤ count) × (any (goes_by gone) (lines_in result (lists nodes.now starts.now ports.now sizes.now)) ≡ false) }
-    ensures fact { (result ≡ count) ⊎ (goes_by gone (line_at (lists nodes.now starts.now ports.now sizes.now) result) ≡ true) }
-{
-    let mut i = 0;
-    while i < count {
-        let l = line_at(nodes, starts, ports, sizes, i);
-        if goes(l, gone) {
-            return i;
-        }
-        i += 1;
-    }
-    i
+    range::holds(block, e).unwrap_or(false)
 }
 
 fn goes(l: Line, gone: Gone) -> bool

@@ -19,10 +19,8 @@ pub(crate) fn others(set: u8, ports: u8, port: u8) -> u8
     ensures { result ≡ set_of 8 (λ p. ltb p ports && (not (eqb p port) && in_set set p)) }
 {
     let mut sent: u8 = 0;
-    let mut p: u8 = 0;
-    while p < 8 {
+    for p in 0..8 {
         sent = put(sent, p, goes(set, ports, port, p));
-        p += 1;
     }
     sent
 }
@@ -31,13 +29,7 @@ fn goes(set: u8, ports: u8, port: u8, p: u8) -> bool
     requires { p < 8 }
     ensures { result ≡ (ltb p ports && (not (eqb p port) && in_set set p)) }
 {
-    if ports <= p {
-        return false;
-    }
-    if p == port {
-        return false;
-    }
-    (set >> p) % 2 == 1
+    p < ports && p != port && (set >> p) % 2 == 1
 }
 
 fn put(set: u8, p: u8, yes: bool) -> u8

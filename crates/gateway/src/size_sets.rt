@@ -1,62 +1,36 @@
 // The sizes that occur: for each of eight ports the set of those below 64, and behind them the set of the ports with the whole space.
-ghost use Rattle.std.specs.Prelude.{◌≡◌, false, not, ◌||◌, ◌≤◌, ◌<◌, eqb, length, get_or, set};
+ghost use Rattle.std.specs.Prelude.{◌≡◌, not, ◌||◌, ◌≤◌, ◌<◌, eqb, length, get_or, set};
 ghost use Rattle.basics.specs.Sets.{set_of, in_set};
 ghost use Rattle.index_rules.specs.Index.{size_sets};
 ghost use Rattle.index_rules.specs.Agreeing.{same_numbers};
 ghost use Rattle.gateway.specs.Indexing.{occurs_in, Sized, SizePut};
+ghost use Rattle.gateway.specs.Lent.{state_seen};
+
+use crate::table::TableView;
 
 // Where the set of the ports with the whole space stands.
 const WHOLE_SPACE: usize = 8;
 
-// Whether the sets are not those of the lines.
-pub(crate) fn wrong_sets(count: usize, ports: &[u8], sizes: &[u8], sets: &[u64]) -> bool
-    requires count_bound { count ≤ 256 }
-    requires ports_len { (length ports.now ≡ 256) × (length sizes.now ≡ 256) × (length sets.now ≡ 9) }
-    requires sized { Sized count ports.now sizes.now }
-    ensures { result ≡ not (same_numbers sets.now (size_sets (occurs_in count ports.now sizes.now))) }
-{
-    let mut made: [u64; 9] = [0; 9];
-    sizes_of(count, ports, sizes, &mut made);
-    differ(sets, &made)
-}
+impl TableView<'_> {
+    // Whether the sets are not those of the lines.
+    pub(crate) fn wrong_sets(&self) -> bool
+        requires { Sized self.now.head.count self.now.ports.now self.now.sizes.now }
+        ensures { result ≡ not (same_numbers self.now.sets.now (size_sets (occurs_in self.now.head.count self.now.ports.now self.now.sizes.now))) }
+    {
+        let made = self.sets_of_lines();
+        self.sets != &made[..]
+    }
 
-fn differ(given: &[u64], made: &[u64]) -> bool
-    requires { (length given.now ≡ 9) × (length made.now ≡ 9) }
-    ensures { result ≡ not (same_numbers given.now made.now) }
-{
-    let mut place = 0;
-    while place < 9 {
-        if given[place] != made[place] {
-            return true;
+    // The sets as they should be.
+    pub(crate) fn sets_of_lines(&self) -> [u64; 9]
+        requires { Sized self.now.head.count self.now.ports.now self.now.sizes.now }
+        ensures { result ≡ size_sets (occurs_in self.now.head.count self.now.ports.now self.now.sizes.now) }
+    {
+        let mut sets: [u64; 9] = [0; 9];
+        for i in 0..self.head.count {
+            put_size(&mut sets, self.ports[i], self.sizes[i]);
         }
-        place += 1;
-    }
-    false
-}
-
-// Makes the sets of the first lines anew.
-pub(crate) fn sizes_of(count: usize, ports: &[u8], sizes: &[u8], sets: &mut [u64])
-    requires count_bound { count ≤ 256 }
-    requires ports_len { (length ports.now ≡ 256) × (length sizes.now ≡ 256) × (length sets.old ≡ 9) }
-    requires sized { Sized count ports.now sizes.now }
-    ensures { sets.new ≡ size_sets (occurs_in count ports.now sizes.now) }
-{
-    clear(sets);
-    let mut i = 0;
-    while i < count {
-        put_size(sets, ports[i], sizes[i]);
-        i += 1;
-    }
-}
-
-fn clear(sets: &mut [u64])
-    requires { length sets.old ≡ 9 }
-    ensures { sets.new ≡ size_sets (λ _ _. false) }
-{
-    let mut i = 0;
-    while i < 9 {
-        sets[i] = 0;
-        i += 1;
+        sets
     }
 }
 

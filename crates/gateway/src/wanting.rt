@@ -1,58 +1,41 @@
 // Which ports want what a message says.
-ghost use Rattle.std.specs.Prelude.{◌≡◌, true, false};
+ghost use Rattle.std.specs.Prelude.{◌≡◌, true};
 ghost use Rattle.range.specs.Range.{is_block};
-ghost use Rattle.gateway_rules.specs.State.{out_of_bounds};
-ghost use Rattle.gateway.specs.State.{Whole, gate_in, lists, index_lists};
-ghost use Rattle.gateway.specs.Answers.{wanted_by, asked_by};
-ghost use Rattle.gateway.specs.Indexing.{IndexFits, WholeIndex};
+ghost use Rattle.gateway.specs.State.{gate_of};
+ghost use Rattle.gateway.specs.Answers.{wanted_by, looked_up_in};
+ghost use Rattle.gateway.specs.Indexing.{Sound};
+ghost use Rattle.gateway.specs.Lent.{state_seen};
 
-use crate::{Head, lookup};
+use crate::lines;
+use crate::table::TableView;
 use message::Saying;
-use range::{Answer, Block};
+use range::Block;
 
 const EVERY: u8 = 255;
 
-// Who wants what is said: every port, or those that have a line which holds an event.
-#[derive(Clone, Copy)]
-enum Asked {
-    Everyone,
-    Holders(u64),
-}
-
-// The ports as a set. Only the event of a report that is not automatic is looked up.
-pub(crate) fn wanted(
-    head: Head,
-    nodes: &[u64],
-    starts: &[u64],
-    ports: &[u8],
-    sizes: &[u8],
-    order: &[u8],
-    sets: &[u64],
-    saying: Saying,
-) -> u8
-    requires whole { Whole (lists nodes.now starts.now ports.now sizes.now) × WholeIndex (index_lists order.now sets.now) }
-    requires index_fits { IndexFits head.count (lists nodes.now starts.now ports.now sizes.now) (index_lists order.now sets.now) }
-    requires sizes_value { out_of_bounds (gate_in head (lists nodes.now starts.now ports.now sizes.now)) ≡ false }
-    ensures { result ≡ wanted_by (gate_in head (lists nodes.now starts.now ports.now sizes.now)) saying }
-{
-    match who_is_asked(head.automatic, saying) {
-        Asked::Everyone => EVERY,
-        Asked::Holders(e) => lookup::holders(
-            head.count, starts, ports, sizes, order, sets, e, head.marks,
-        ),
+impl TableView<'_> {
+    // The ports as a set.
+    pub(crate) fn wanted(&self, saying: Saying) -> u8
+        requires { Sound (state_seen self.now) }
+        ensures { result ≡ wanted_by (gate_of (state_seen self.now)) saying }
+    {
+        match looked_up(self.head.automatic, saying) {
+            None => EVERY,
+            Some(e) => self.holders(e),
+        }
     }
 }
 
-fn who_is_asked(automatic: Block, saying: Saying) -> Asked
+// The event of a report that is not automatic: those who hold it want it. All else every port wants.
+fn looked_up(automatic: Block, saying: Saying) -> Option<u64>
     requires { is_block automatic ≡ true }
-    ensures { result ≡ asked_by automatic saying }
+    ensures { result ≡ looked_up_in automatic saying }
 {
     let Saying::Report(e) = saying else {
-        return Asked::Everyone;
+        return None;
     };
-    match range::holds(automatic, e) {
-        Answer::Yes => Asked::Everyone,
-        Answer::No => Asked::Holders(e),
-        Answer::NoBlock => Asked::Holders(e),
+    if lines::holds(automatic, e) {
+        return None;
     }
+    Some(e)
 }

@@ -1,132 +1,101 @@
 // The box on lent lists, of which the starts have a place more than a table.
-use crate::tables::byte;
+use basics::Refusal;
 use gateway::{Answer, Gateway, Head};
+use gateway_rules::Reason;
 
-// The answer, and the lists of the lines as they were left.
+// How many places of each list are lent.
 #[derive(Clone, Copy)]
-struct Lent {
-    refusal: u8,
-    sent: u8,
-    marks: u8,
-    count: usize,
-    nodes: [u64; 256],
-    starts: [u64; 257],
-    ports: [u8; 256],
-    sizes: [u8; 256],
+pub(crate) struct Lengths {
+    pub(crate) nodes: u64,
+    pub(crate) starts: u64,
+    pub(crate) ports: u64,
+    pub(crate) sizes: u64,
+    pub(crate) order: u64,
+    pub(crate) sets: u64,
 }
 
-// The numbers: how many places of each list are lent, and the port.
-pub(crate) fn received(g: &Gateway, numbers: [u64; 16], bytes: [u8; 512], length: usize) -> Answer {
-    let head = g.head;
-    let nodes = g.nodes;
-    let starts = g.starts;
-    let ports = g.ports;
-    let sizes = g.sizes;
-    let mut order = g.order;
-    let mut sets = g.sets;
-    let end = length % 513;
-    let message = &bytes[0..end];
-    let of_order = (numbers[5] % 257) as usize;
-    let of_sets = (numbers[6] % 10) as usize;
-    let a = lend(
-        head,
-        nodes,
-        longer(starts),
-        ports,
-        sizes,
-        &mut order[0..of_order],
-        &mut sets[0..of_sets],
-        numbers,
-        message,
-    );
-    answered(head, a, order, sets)
-}
-
-fn lend(
-    head: Head,
-    old_nodes: [u64; 256],
-    old_starts: [u64; 257],
-    old_ports: [u8; 256],
-    old_sizes: [u8; 256],
-    order: &mut [u8],
-    sets: &mut [u64],
-    numbers: [u64; 16],
-    message: &[u8],
-) -> Lent {
-    let mut nodes = old_nodes;
-    let mut starts = old_starts;
-    let mut ports = old_ports;
-    let mut sizes = old_sizes;
-    let of_nodes = (numbers[1] % 257) as usize;
-    let of_starts = (numbers[2] % 258) as usize;
-    let of_ports = (numbers[3] % 257) as usize;
-    let of_sizes = (numbers[4] % 257) as usize;
-    let a = gateway::receive_lent(
-        head,
-        &mut nodes[0..of_nodes],
-        &mut starts[0..of_starts],
-        &mut ports[0..of_ports],
-        &mut sizes[0..of_sizes],
-        order,
-        sets,
-        byte(numbers[7]),
-        message,
-    );
-    Lent {
-        refusal: a.refusal,
-        sent: a.sent,
-        marks: a.marks,
-        count: a.count,
-        nodes,
-        starts,
-        ports,
-        sizes,
+impl Lengths {
+    pub(crate) fn whole() -> Lengths {
+        Lengths {
+            nodes: 256,
+            starts: 256,
+            ports: 256,
+            sizes: 256,
+            order: 256,
+            sets: 9,
+        }
     }
-}
 
-fn answered(old: Head, a: Lent, order: [u8; 256], sets: [u64; 9]) -> Answer {
-    let automatic = old.automatic;
-    let head = Head {
-        ports: old.ports,
-        marks: a.marks,
-        automatic,
-        count: a.count,
-    };
-    let nodes = a.nodes;
-    let starts = a.starts;
-    let ports = a.ports;
-    let sizes = a.sizes;
-    Answer {
-        refusal: a.refusal,
-        sent: a.sent,
-        gateway: Gateway {
+    pub(crate) fn receive(self, before: &Gateway, port: u8, bytes: &[u8]) -> Answer {
+        let head = before.head;
+        let mut nodes = before.nodes;
+        let mut starts = longer(&before.starts);
+        let mut ports = before.ports;
+        let mut sizes = before.sizes;
+        let mut order = before.order;
+        let mut sets = before.sets;
+        let answer = gateway::receive_lent(
             head,
-            nodes,
-            starts: shorter(starts),
-            ports,
-            sizes,
-            order,
-            sets,
-        },
+            &mut nodes[..(self.nodes % 257) as usize],
+            &mut starts[..(self.starts % 258) as usize],
+            &mut ports[..(self.ports % 257) as usize],
+            &mut sizes[..(self.sizes % 257) as usize],
+            &mut order[..(self.order % 257) as usize],
+            &mut sets[..(self.sets % 10) as usize],
+            port,
+            bytes,
+        );
+        Answer {
+            refusal: answer.refusal,
+            sent: answer.sent,
+            gateway: Gateway {
+                head: Head {
+                    marks: answer.marks,
+                    count: answer.count,
+                    ..head
+                },
+                nodes,
+                starts: shorter(&starts),
+                ports,
+                sizes,
+                order,
+                sets,
+            },
+        }
+    }
+
+    pub(crate) fn why(
+        self,
+        gateway: &Gateway,
+        port: u8,
+        asked: u8,
+        bytes: &[u8],
+    ) -> Result<Reason, Refusal> {
+        let starts = longer(&gateway.starts);
+        gateway::why(
+            gateway.head,
+            &gateway.nodes[..(self.nodes % 257) as usize],
+            &starts[..(self.starts % 258) as usize],
+            &gateway.ports[..(self.ports % 257) as usize],
+            &gateway.sizes[..(self.sizes % 257) as usize],
+            &gateway.order[..(self.order % 257) as usize],
+            &gateway.sets[..(self.sets % 10) as usize],
+            port,
+            asked,
+            bytes,
+        )
     }
 }
 
-pub(crate) fn longer(list: [u64; 256]) -> [u64; 257] {
-    let mut next = [list[255]; 257];
-    let mut i = 0;
-    while i < 256 {
-        next[i] = list[i];
-        i += 1;
-    }
-    next
+// The last once more.
+fn longer(starts: &[u64; 256]) -> [u64; 257] {
+    let mut longer = [starts[255]; 257];
+    longer[..256].copy_from_slice(starts);
+    longer
 }
 
-fn shorter(list: [u64; 257]) -> [u64; 256] {
-    let mut next = [0u64; 256];
-    let mut i = 0;
-    while i < 256 {
-        next[i] = list[i];
-        i += 1;
-    }
-    next
+fn shorter(starts: &[u64; 257]) -> [u64; 256] {
+    let mut shorter = [0; 256];
+    shorter.copy_from_slice(&starts[..256]);
+    shorter
 }

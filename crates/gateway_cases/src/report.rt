@@ -1,217 +1,109 @@
 // What is printed of a step.
-use crate::laid_index::{order_total, sets_total};
-use crate::tables::total;
-use gateway::{Answer, Gateway, Head, WhyAnswer};
-use gateway_rules::{Holder, Reason};
+use crate::totals;
+use basics::Refusal;
+use gateway::{Answer, Gateway, Head};
+use gateway_rules::Reason;
 use std::io;
 
-// What a message came to, and the next state, which comes back.
-pub(crate) fn told(rt: &impl Print, before: &Gateway, a: Answer) -> io::Result<Gateway> {
-    let g = a.gateway;
-    let head = g.head;
-    answer(rt, a.refusal, a.sent, head.ports)?;
-    kept(rt, a.refusal, of_everything(before), of_everything(&g))?;
-    state(rt, head, total(&g, head.count))?;
-    lines(rt, &g)?;
-    order(rt, &g)?;
-    sets(rt, &g)?;
-    Ok(g)
+// What a message came to, and the state after it.
+pub(crate) fn told(rt: &impl Print, before: &Gateway, answer: &Answer) -> io::Result<()> {
+    let after = &answer.gateway;
+    let head = after.head;
+    sent_or_refused(rt, answer)?;
+    // Whether a refused message left the lists as they were, past the count too.
+    if answer.refusal != 0 {
+        if totals::of_everything(before) == totals::of_everything(after) {
+            print!(rt; ", kept")?;
+        } else {
+            print!(rt; ", CHANGED")?;
+        }
+    }
+    state(rt, head)?;
+    if head.count > 8 {
+        print!(rt; "; total {:016x}", totals::of_lines(after, head.count))?;
+    }
+    println!(rt; "")?;
+    lines(rt, after)?;
+    order(rt, after)?;
+    print!(rt; "; sets")?;
+    for set in &after.sets {
+        print!(rt; " {set:x}")?;
+    }
+    println!(rt; "")
 }
 
 // The same of a start.
-pub(crate) fn started(rt: &impl Print, a: Answer) -> io::Result<Gateway> {
-    let g = a.gateway;
-    let head = g.head;
-    answer(rt, a.refusal, a.sent, head.ports)?;
-    state(rt, head, 0)?;
-    Ok(g)
+pub(crate) fn started(rt: &impl Print, answer: &Answer) -> io::Result<()> {
+    sent_or_refused(rt, answer)?;
+    state(rt, answer.gateway.head)?;
+    println!(rt; "")
 }
 
-fn answer(rt: &impl Print, refusal: u8, ports_sent: u8, ports: u8) -> io::Result<()> {
-    say(rt, b"  ")?;
-    if refusal == 0 {
-        sent(rt, ports_sent, ports)
-    } else {
-        say(rt, b"refused ")?;
-        decimal(rt, refusal as u64)
+// A digit a port, or the refusal.
+fn sent_or_refused(rt: &impl Print, answer: &Answer) -> io::Result<()> {
+    print!(rt; "  ")?;
+    if answer.refusal != 0 {
+        return print!(rt; "refused {}", answer.refusal);
     }
-}
-
-// A digit a port.
-fn sent(rt: &impl Print, set: u8, ports: u8) -> io::Result<()> {
-    let mut rest = set;
-    let mut p = 0;
-    while p < ports {
-        decimal(rt, (rest % 2) as u64)?;
+    let mut rest = answer.sent;
+    for _ in 0..answer.gateway.head.ports {
+        print!(rt; "{}", rest % 2)?;
         rest /= 2;
-        p += 1;
     }
     Ok(())
 }
 
-// Whether a refused message left the lists as they were, past the count too.
-fn kept(rt: &impl Print, refusal: u8, old_total: u64, new_total: u64) -> io::Result<()> {
-    if refusal == 0 {
-        return Ok(());
-    }
-    if old_total == new_total {
-        say(rt, b", kept")
-    } else {
-        say(rt, b", CHANGED")
-    }
+// As the command that lays it out.
+fn state(rt: &impl Print, head: Head) -> io::Result<()> {
+    let block = head.automatic;
+    print!(rt; "; box {:x} {:x}", head.ports, head.marks)?;
+    print!(rt; " {:016x} {:x} {:x}", block.start, block.k, head.count)
 }
 
-// As the command that lays it out, and of a long table the total.
-fn state(rt: &impl Print, head: Head, of_all: u64) -> io::Result<()> {
-    let automatic = head.automatic;
-    say(rt, b"; box")?;
-    hex(rt, head.ports as u64, 1)?;
-    hex(rt, head.marks as u64, 1)?;
-    hex(rt, automatic.start, 16)?;
-    hex(rt, automatic.k as u64, 1)?;
-    hex(rt, head.count as u64, 1)?;
-    if 8 < head.count {
-        say(rt, b"; total")?;
-        hex(rt, of_all, 16)?;
-    }
-    say(rt, b"\n")
+// Of a long list the first four places and the last four are printed.
+fn is_printed(place: usize, count: usize) -> bool {
+    place < 4 || place >= count.saturating_sub(4)
 }
 
-// Of a long table the first four and the last four.
-fn lines(rt: &impl Print, g: &Gateway) -> io::Result<()> {
-    let head = g.head;
-    let count = head.count;
-    let mut i = 0;
-    while i < 256 {
-        if count <= i {
-            return Ok(());
+fn lines(rt: &impl Print, gateway: &Gateway) -> io::Result<()> {
+    let count = gateway.head.count;
+    for place in 0..count.min(256) {
+        if is_printed(place, count) {
+            let port = gateway.ports[place];
+            let node = gateway.nodes[place];
+            let start = gateway.starts[place];
+            let k = gateway.sizes[place];
+            println!(rt; "    {place:x}: {port:x} {node:012x} {start:016x} {k:x}")?;
         }
-        let at = i;
-        i += 1;
-        if 4 <= at {
-            if at + 4 < count {
-                continue;
-            }
-        }
-        line(rt, at, g.ports[at], g.nodes[at], g.starts[at], g.sizes[at])?;
     }
     Ok(())
 }
 
-// The order up to the count, of a long table the first four, the last four and their total.
-fn order(rt: &impl Print, g: &Gateway) -> io::Result<()> {
-    let head = g.head;
-    let count = at_most(head.count, 256);
-    say(rt, b"    order")?;
-    let mut i = 0;
-    while i < 256 {
-        if count <= i {
-            return Ok(());
+// The order up to the count, of a long table the total too.
+fn order(rt: &impl Print, gateway: &Gateway) -> io::Result<()> {
+    let order = &gateway.order[..gateway.head.count.min(256)];
+    print!(rt; "    order")?;
+    for (place, number) in order.iter().enumerate() {
+        if is_printed(place, order.len()) {
+            print!(rt; " {number:x}")?;
         }
-        let at = i;
-        i += 1;
-        if 4 <= at {
-            if at + 4 < count {
-                continue;
-            }
-        }
-        hex(rt, g.order[at] as u64, 1)?;
-        after_last(rt, g, i, count)?;
+    }
+    if order.len() > 8 {
+        print!(rt; " total {:016x}", totals::of_order(order))?;
     }
     Ok(())
-}
-
-fn after_last(rt: &impl Print, g: &Gateway, printed: usize, count: usize) -> io::Result<()> {
-    if count <= 8 {
-        return Ok(());
-    }
-    if printed < count {
-        return Ok(());
-    }
-    say(rt, b" total")?;
-    hex(rt, order_total(g, count), 16)
-}
-
-fn sets(rt: &impl Print, g: &Gateway) -> io::Result<()> {
-    say(rt, b"; sets")?;
-    let mut i = 0;
-    while i < 9 {
-        hex(rt, g.sets[i], 1)?;
-        i += 1;
-    }
-    say(rt, b"\n")
-}
-
-fn at_most(n: usize, most: usize) -> usize {
-    if most < n { most } else { n }
-}
-
-// What a refusal keeps: every place of the lists, those of the index too.
-fn of_everything(g: &Gateway) -> u64 {
-    let index = order_total(g, 256).wrapping_add(sets_total(g));
-    total(g, 256).wrapping_add(index)
-}
-
-fn line(rt: &impl Print, place: usize, port: u8, node: u64, start: u64, k: u8) -> io::Result<()> {
-    say(rt, b"   ")?;
-    hex(rt, place as u64, 1)?;
-    say(rt, b":")?;
-    hex(rt, port as u64, 1)?;
-    hex(rt, node, 12)?;
-    hex(rt, start, 16)?;
-    hex(rt, k as u64, 1)?;
-    say(rt, b"\n")
 }
 
 // The reason by its number, and the line that it names.
-pub(crate) fn reason(rt: &impl Print, a: WhyAnswer) -> io::Result<()> {
-    match a {
-        WhyAnswer::Because(r) => because(rt, r)?,
-        WhyAnswer::Refused(refusal) => answer(rt, refusal, 0, 0)?,
+pub(crate) fn reason(rt: &impl Print, answer: Result<Reason, Refusal>) -> io::Result<()> {
+    match answer {
+        Ok(reason) => print!(rt; "  reason {}", u8::from(reason))?,
+        Err(refusal) => print!(rt; "  refused {}", u8::from(refusal))?,
     }
-    say(rt, b"\n")
-}
-
-fn because(rt: &impl Print, r: Reason) -> io::Result<()> {
-    say(rt, b"  reason ")?;
-    match r {
-        Reason::ArrivalPort => say(rt, b"1"),
-        Reason::AutomaticEvent => say(rt, b"2"),
-        Reason::OpenPort => say(rt, b"3"),
-        Reason::HeldBy(l) => held_by(rt, l),
-        Reason::NothingHolds => say(rt, b"5"),
+    if let Ok(Reason::HeldBy(line)) = answer {
+        let block = line.block;
+        print!(rt; "; line {:x} {:012x}", line.place, line.node)?;
+        print!(rt; " {:016x} {:x}", block.start, block.k)?;
     }
-}
-
-fn held_by(rt: &impl Print, l: Holder) -> io::Result<()> {
-    let block = l.block;
-    say(rt, b"4; line")?;
-    hex(rt, l.place as u64, 1)?;
-    hex(rt, l.node, 12)?;
-    hex(rt, block.start, 16)?;
-    hex(rt, block.k as u64, 1)
-}
-
-pub(crate) fn not_read(rt: &impl Print, number: usize) -> io::Result<()> {
-    say(rt, b"  line ")?;
-    decimal(rt, number as u64)?;
-    say(rt, b": cannot be read\n")
-}
-
-fn hex(rt: &impl Print, n: u64, width: usize) -> io::Result<()> {
-    say(rt, b" ")?;
-    print!(rt; "{n:0width$x}")
-}
-
-fn decimal(rt: &impl Print, n: u64) -> io::Result<()> {
-    print!(rt; "{n}")
-}
-
-pub(crate) fn echo(rt: &impl Print, line: &[u8]) -> io::Result<()> {
-    say(rt, line)?;
-    say(rt, b"\n")
-}
-
-fn say(rt: &impl Print, t: &[u8]) -> io::Result<()> {
-    rt.write_all(t)
+    println!(rt; "")
 }

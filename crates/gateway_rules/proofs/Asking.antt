@@ -8,6 +8,7 @@ use native.Mathlib.Omega.{arith}
 use borrow.Author.Tests.{leb-false, lt-leb, not-false}
 use lib.Dec.{eqb, leb}
 use lib.ListN.{length}
+use Rattle.std.specs.Prelude.{Ok, Err}
 use Rattle.range.specs.Range.{is_block}
 use Rattle.basics.specs.Lists.{any, first_or}
 use Rattle.basics.specs.Refusals.{refuse, first_of, answered, Told, told, refused, None, Given}
@@ -15,7 +16,6 @@ use Rattle.basics.proofs.Bools.{neither}
 use Rattle.basics.proofs.Lists.{any_append}
 use Rattle.basics.proofs.Firsts.{first_some, first_after, first_none, first_given, first_up_to, first_passed, rest_passed, told_number_lem, answered_yes, answered_no}
 use Rattle.message.specs.declared.Message.{Message}
-use Rattle.message.specs.declared.Reading.TheVariants.{Read, Refused}
 use Rattle.message.specs.declared.Saying.{Saying}
 use Rattle.message.specs.declared.Saying.TheVariants.{Report, Announcement, Restart, Inquiry, InquiryForAll, Learn, Nothing}
 use Rattle.message.specs.Messages.{bad_node}
@@ -167,7 +167,7 @@ told_nothing ports r s h q p bytes other w =
     five NothingHolds n = refl
 
 -- 15 is for what is read and is no report by its MTI.
-pub no_report_kind : (bytes : List ℕ) (m : Message) → read_of bytes ≡ Read m → no_report bytes ≡ not (is_report (kind_of m.mti))
+pub no_report_kind : (bytes : List ℕ) (m : Message) → read_of bytes ≡ Ok m → no_report bytes ≡ not (is_report (kind_of m.mti))
 no_report_kind bytes m r = go (is_report (kind_of m.mti)) refl
   where
     held : m ≡ message_in bytes
@@ -182,7 +182,7 @@ no_report_kind bytes m r = go (is_report (kind_of m.mti)) refl
 -- ---- by the tests, in their order
 
 -- What the bytes read as decides the number.
-unread : (k n : ℕ) (m : Message) → answered Read Refused k m ≡ Refused n → (k ≡ n) × (n ≡ 0 → ⊥)
+unread : (k n : ℕ) (m : Message) → answered Ok Err k m ≡ Err n → (k ≡ n) × (n ≡ 0 → ⊥)
 unread zero n m e = let z : ◌≡◌ {A = ℕ} 0 1 = cc in absurd (omega arith)
 unread (suc k) n m e = let same : suc k ≡ n = cc in (same, λ z. omega (arith, same, z))
 
@@ -207,13 +207,13 @@ module _ (g : Gate) (q p : ℕ) (bytes : List ℕ) where
           ap (λ (k : ℕ). answered (λ y. told (y ∷ [])) (λ i. refused i []) k reason) e ∙ answered_no (λ y. told (y ∷ [])) (λ i. refused i []) n reason z
 
       -- A message that is not read.
-      pub why_unread : (n : ℕ) → read_of bytes ≡ Refused n → why_told g q p bytes ≡ refused n []
+      pub why_unread : (n : ℕ) → read_of bytes ≡ Err n → why_told g q p bytes ≡ refused n []
       unfolding read_of
       why_unread n r =
           let h = unread (first_of (read_tests bytes)) n (message_in bytes) r in
           by_number (reads ∙ first_some (read_tests bytes) (refuse 15 (no_report bytes) ∷ []) (λ z. h.1 (sym h.0 ∙ z)) ∙ h.0) h.1
 
-      module _ (m : Message) (r : read_of bytes ≡ Read m) where
+      module _ (m : Message) (r : read_of bytes ≡ Ok m) where
         none : None (read_tests bytes)
         none = ((read_accepted bytes m).0 r).0
 

@@ -4,6 +4,7 @@ use mathlib.Core.Path.{◌≡◌, refl}
 use mathlib.Core.Bool.{true, false}
 use mathlib.Core.List.{List, [], ◌∷◌, ◌++◌}
 use lib.ListN.{length}
+use Rattle.std.specs.Prelude.{Some}
 use Rattle.range.specs.Range.{bits_equal, run, is_block, has_number, in_block, inside, single, block_of, house}
 use Rattle.numbers.specs.Numbers.{spelled, bytes_of}
 use Rattle.message.specs.Mti.{meaning_of}
@@ -15,7 +16,6 @@ use Rattle.gateway_rules.specs.State.{Gate, out_of_bounds, start_of}
 use Rattle.gateway_rules.specs.Step.{line, unnested, announce, taken, wants, goes_to, step}
 use Rattle.gateway_rules.specs.History.{Entry, Live}
 use Rattle.basics.specs.Since.Never.{nothing, nor}
-use Rattle.message.specs.declared.Field.TheVariants.{Present}
 use Rattle.gateway_rules.proofs.Entries.{entry, with_event, said, printed, row}
 use Rattle.gateway_rules.proofs.Holding.{no_restart}
 
@@ -139,22 +139,22 @@ nested_answered = (refl, refl, refl, refl)
 -- ---- live as before
 
 -- The event 17 of board 7 at port 1 is live after its block was announced, in whose place its line went, and also where the block came first and it got no line.
-pub replaced_live : Live (said 1 0x04C4 7 (Present 17) ∷ said 1 0x04A4 7 (Present 16) ∷ []) 1 7 (single 17)
+pub replaced_live : Live (said 1 0x04C4 7 (Some 17) ∷ said 1 0x04A4 7 (Some 16) ∷ []) 1 7 (single 17)
 unfolding Live said_by meaning_of block_of run bits_equal
 replaced_live = record {
   before = [];
-  by = said 1 0x04C4 7 (Present 17);
-  later = said 1 0x04A4 7 (Present 16) ∷ [];
+  by = said 1 0x04C4 7 (Some 17);
+  later = said 1 0x04A4 7 (Some 16) ∷ [];
   split = refl;
   started = record { here = refl; sender = refl; says = refl };
   lasting = nor (no_restart (block_of 16) refl) nothing;
 }
 
-pub covered_live : Live (said 1 0x04A4 7 (Present 16) ∷ said 1 0x04C4 7 (Present 17) ∷ []) 1 7 (single 17)
+pub covered_live : Live (said 1 0x04A4 7 (Some 16) ∷ said 1 0x04C4 7 (Some 17) ∷ []) 1 7 (single 17)
 unfolding Live said_by meaning_of
 covered_live = record {
-  before = said 1 0x04A4 7 (Present 16) ∷ [];
-  by = said 1 0x04C4 7 (Present 17);
+  before = said 1 0x04A4 7 (Some 16) ∷ [];
+  by = said 1 0x04C4 7 (Some 17);
   later = [];
   split = refl;
   started = record { here = refl; sender = refl; says = refl };

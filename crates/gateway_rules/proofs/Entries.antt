@@ -3,9 +3,8 @@ use Prim.Native.Nat.{ℕ}
 use mathlib.Core.Bool.{cond}
 use mathlib.Core.List.{List, [], ◌∷◌, ◌++◌}
 use lib.ListN.{length}
+use Rattle.std.specs.Prelude.{Option, None}
 use Rattle.numbers.specs.Numbers.{bytes_of}
-use Rattle.message.specs.declared.Field.{Field}
-use Rattle.message.specs.declared.Field.TheVariants.{Absent}
 use Rattle.gateway_rules.specs.State.{Gate}
 use Rattle.gateway_rules.specs.Step.{step}
 use Rattle.gateway_rules.specs.History.{Entry, Heard}
@@ -20,8 +19,8 @@ abbrev pub initialized : ℕ → List ℕ
 initialized node = bytes_of 2 0x0100 ++ (bytes_of 6 node ++ bytes_of 6 node)
 
 -- A message heard at a port, with an event or without.
-abbrev pub said : ℕ → ℕ → ℕ → Field → Heard
-said port mti node event = record { port = port; message = record { mti = mti; source = node; destination = Absent; event = event } }
+abbrev pub said : ℕ → ℕ → ℕ → Option ℕ → Heard
+said port mti node event = record { port = port; message = record { mti = mti; source = node; destination = None; event = event } }
 
 -- What is printed of an entry: the refusal, a digit for each of four ports, and the lines in the table.
 pub record Printed : Type 0 where

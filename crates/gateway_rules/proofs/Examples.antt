@@ -4,9 +4,9 @@ use mathlib.Core.Path.{◌≡◌, refl}
 use mathlib.Core.Bool.{true, false}
 use mathlib.Core.List.{List, [], ◌∷◌, ◌++◌}
 use lib.ListN.{length}
+use Rattle.std.specs.Prelude.{Some, None}
 use Rattle.range.specs.Range.{bits_equal, run, is_block, has_number, in_block, single, block_of, house, inside}
 use Rattle.numbers.specs.Numbers.{spelled, bytes_of}
-use Rattle.message.specs.declared.Field.TheVariants.{Present, Absent}
 use Rattle.message.specs.Mti.{meaning_of}
 use Rattle.message.specs.Messages.{bad_nodes, bad_content, other_source}
 use Rattle.message.specs.Reading.{fields_in}
@@ -45,7 +45,7 @@ board = 0x0A0000000001
 
 -- Each by another node, so that lines are compared by their Node IDs alone.
 abbrev announcement : ℕ → Heard
-announcement e = record { port = 1; message = record { mti = 0x04C4; source = board + e; destination = Absent; event = Present e } }
+announcement e = record { port = 1; message = record { mti = 0x04C4; source = board + e; destination = None; event = Some e } }
 
 abbrev announcements : ℕ → List Heard
 announcements zero = []
@@ -74,10 +74,10 @@ opens_at_257 = (refl, refl)
 -- ---- the same said in other bytes
 
 abbrev carrying : ℕ → ℕ → Heard
-carrying mti e = record { port = 1; message = record { mti = mti; source = board; destination = Absent; event = Present e } }
+carrying mti e = record { port = 1; message = record { mti = mti; source = board; destination = None; event = Some e } }
 
 abbrev restarting_at : ℕ → ℕ → Heard
-restarting_at port mti = record { port = port; message = record { mti = mti; source = board; destination = Absent; event = Absent } }
+restarting_at port mti = record { port = port; message = record { mti = mti; source = board; destination = None; event = None } }
 
 abbrev restarting : ℕ → Heard
 restarting mti = restarting_at 1 mti

@@ -5,12 +5,11 @@ use mathlib.Core.Bool.{Bool, true, false, cond}
 use mathlib.Core.List.{List, [], ◌∷◌, ◌++◌}
 use borrow.Author.Tests.{ltb-true, ltb-false, le-leb, lt-leb}
 use lib.Dec.{leb, ltb}
+use Rattle.std.specs.Prelude.{Result, Ok, Err}
 use Rattle.message.specs.declared.Message.{Message}
-use Rattle.message.specs.declared.Reading.{Reading}
-use Rattle.message.specs.declared.Reading.TheVariants.{Read, Refused}
 use Rattle.message.specs.Messages.{bad_node, bad_where_present, bad_nodes}
-use Rattle.message.specs.Reading.{message_in, read_tests, reading_told, read_told, read_of}
-use Rattle.basics.specs.Refusals.{first_of, answered, Told, told, refused}
+use Rattle.message.specs.Reading.{message_in, read_tests, read_told, read_of}
+use Rattle.basics.specs.Refusals.{first_of, answered, Told, told, refused, told_of}
 use Rattle.message.proofs.Exactly.{read_accepted}
 use Rattle.message.proofs.Tellings.{read_told_lem}
 use Rattle.basics.proofs.Firsts.{first_passed, rest_passed}
@@ -59,7 +58,7 @@ step_heard g e i = go (first_of (step_tests g e.port e.bytes)) ∙ ap (left_by g
     go (suc n) = refl
 
 -- A message that is read has a good source.
-pub read_source : (bytes : List ℕ) (m : Message) → read_of bytes ≡ Read m → bad_node m.source ≡ false
+pub read_source : (bytes : List ℕ) (m : Message) → read_of bytes ≡ Ok m → bad_node m.source ≡ false
 unfolding bad_nodes
 read_source bytes m e =
     let h = (read_accepted bytes m).0 e in
@@ -71,9 +70,9 @@ heard_bounded g e i =
     subst (λ (t : Told (List Message)). Bounded (left_by g (cond (ltb e.port g.ports) (heard_at e.port t) []))) (read_told_lem e.bytes)
     (go (ltb e.port g.ports) refl (read_of e.bytes) refl)
   where
-    go : (t : Bool) → ltb e.port g.ports ≡ t → (r : Reading) → read_of e.bytes ≡ r → Bounded (left_by g (cond t (heard_at e.port (reading_told r)) []))
-    go true f (Read m) k = bounded_taken g e.port m i (ltb-true e.port g.ports f) (read_source e.bytes m k)
-    go true f (Refused n) k = i
+    go : (t : Bool) → ltb e.port g.ports ≡ t → (r : Result Message ℕ) → read_of e.bytes ≡ r → Bounded (left_by g (cond t (heard_at e.port (told_of r)) []))
+    go true f (Ok m) k = bounded_taken g e.port m i (ltb-true e.port g.ports f) (read_source e.bytes m k)
+    go true f (Err n) k = i
     go false f r k = i
 
 -- ---- every history

@@ -5,9 +5,9 @@ use mathlib.Core.Bool.{true}
 use mathlib.Core.List.{List, [], ◌∷◌}
 use native.Mathlib.Omega.{arith}
 use lib.Dec.{eqb}
+use Rattle.std.specs.Prelude.{Some, None}
 use Rattle.numbers.specs.Numbers.{spelled, bytes_of}
 use Rattle.range.specs.Range.{bits_equal, run, is_block, has_number, in_block, single, block_of, house, inside}
-use Rattle.message.specs.declared.Field.TheVariants.{Present, Absent}
 use Rattle.message.specs.declared.Saying.TheVariants.{Restart}
 use Rattle.message.specs.Mti.{meaning_of}
 use Rattle.message.specs.Messages.{bad_nodes, bad_content, other_source}
@@ -83,13 +83,13 @@ pub rest_in_order : ((hear mixed 0 7 Restart).lines ≡ line 2 8 (single 70) ∷
 rest_in_order = (refl, refl)
 
 -- What board 7 announced at port 1 is live after board 8 has restarted there.
-pub not_ended : Live (said 1 0x04C4 7 (Present 70) ∷ said 1 0x0100 8 Absent ∷ []) 1 7 (single 70)
+pub not_ended : Live (said 1 0x04C4 7 (Some 70) ∷ said 1 0x0100 8 None ∷ []) 1 7 (single 70)
 unfolding Live said_by meaning_of
 not_ended = record {
   before = [];
-  by = said 1 0x04C4 7 (Present 70);
-  later = said 1 0x0100 8 Absent ∷ [];
+  by = said 1 0x04C4 7 (Some 70);
+  later = said 1 0x0100 8 None ∷ [];
   split = refl;
   started = record { here = refl; sender = refl; says = refl };
-  lasting = nor (λ (r : Restarts 7 (said 1 0x0100 8 Absent)). omega (arith, r.node)) nothing;
+  lasting = nor (λ (r : Restarts 7 (said 1 0x0100 8 None)). omega (arith, r.node)) nothing;
 }

@@ -6,9 +6,9 @@ use mathlib.Core.Bool.{Bool, true, false, ◌||◌, false≢true}
 use mathlib.Core.List.{List}
 use borrow.Author.Tests.{eqb-true}
 use lib.Dec.{eqb}
+use Rattle.std.specs.Prelude.{Ok}
 use Rattle.message.specs.declared.Kind.TheVariants.{EventReport}
 use Rattle.message.specs.declared.Message.{Message}
-use Rattle.message.specs.declared.Reading.TheVariants.{Read}
 use Rattle.message.specs.Mti.{is_report, carries_event, event_at, kind_of, mtis_of}
 use Rattle.numbers.specs.Numbers.{number_at}
 use Rattle.message.specs.Reading.{field_at, fields_in, mti_in, read_of}
@@ -26,7 +26,7 @@ report_carries m e =
     (λ t. ⊎_elim (λ u. ap carries_event (eqb-true m 0x0F14 u)) (λ u. absurd (false≢true u)) (either_true (eqb m 0x0F14) false t))
     (either_true (eqb m 0x05B4) (eqb m 0x0F14 || false) one)
 
-pub accepted_reports : (bytes : List ℕ) (m : Message) → read_of bytes ≡ Read m → is_report (kind_of m.mti) ≡ true → (e : ℕ) × Reports e m
+pub accepted_reports : (bytes : List ℕ) (m : Message) → read_of bytes ≡ Ok m → is_report (kind_of m.mti) ≡ true → (e : ℕ) × Reports e m
 unfolding fields_in
 accepted_reports bytes m r k =
     let held = ((read_accepted bytes m).0 r).1 in

@@ -2,13 +2,12 @@
 use Prim.Native.Nat.{ℕ}
 use mathlib.Core.Path.{◌≡◌, refl, sym, ap, ◌∙◌}
 use mathlib.Core.Bool.{Bool, true, false, true≢false}
+use Rattle.std.specs.Prelude.{Option, Some, None}
 use Rattle.range.specs.declared.Block.{Block}
 use Rattle.range.specs.Range.{is_block}
 use Rattle.range.proofs.Laws.{single_block, block_of_block}
 use Rattle.message.specs.declared.Kind.{Kind}
 use Rattle.message.specs.declared.Kind.TheVariants.{InitializationComplete, EventReport, IdentifyConsumer, IdentifyProducer, ConsumerIdentified, ProducerIdentified, ConsumerRangeIdentified, ProducerRangeIdentified, IdentifyEvents, LearnEvent, Other}
-use Rattle.message.specs.declared.Field.{Field}
-use Rattle.message.specs.declared.Field.TheVariants.{Present, Absent}
 use Rattle.message.specs.declared.Message.{Message}
 use Rattle.message.specs.declared.Saying.{Saying}
 use Rattle.message.specs.declared.Saying.TheVariants.{Report, Announcement, Restart, Inquiry, InquiryForAll, Learn, Nothing}
@@ -26,11 +25,11 @@ fits k (InquiryForAll destination) = true
 fits k (Learn e) = true
 fits k Nothing = true
 
-of_event_lem : (k : Kind) (says : ℕ → Saying) → ((e : ℕ) → fits k (says e) ≡ true) → (f : Field) → fits k (of_event says f) ≡ true
-of_event_lem k says h (Present e) = h e
-of_event_lem k says h Absent = refl
+of_event_lem : (k : Kind) (says : ℕ → Saying) → ((e : ℕ) → fits k (says e) ≡ true) → (f : Option ℕ) → fits k (of_event says f) ≡ true
+of_event_lem k says h (Some e) = h e
+of_event_lem k says h None = refl
 
-by_kind : (k : Kind) (event destination : Field) → fits k (saying k event destination) ≡ true
+by_kind : (k : Kind) (event destination : Option ℕ) → fits k (saying k event destination) ≡ true
 by_kind EventReport f d = of_event_lem EventReport _ (λ _. refl) f
 by_kind ConsumerIdentified f d = of_event_lem ConsumerIdentified _ single_block f
 by_kind ConsumerRangeIdentified f d = of_event_lem ConsumerRangeIdentified _ block_of_block f

@@ -1,6 +1,9 @@
 // A line of the table, and why a report is sent to a port. What the box does with them is defined in specs/ and proved in proofs/.
 #![tactic(auto)]
 
+ghost use Rattle.std.specs.Prelude.{◌≡◌};
+ghost use Rattle.gateway_rules.specs.Reasons.{reason_told};
+
 use range::Block;
 
 // What a node announced at a port.
@@ -28,4 +31,19 @@ pub enum Reason {
     OpenPort,
     HeldBy(Holder),
     NothingHolds,
+}
+
+impl From<Reason> for u8 {
+    ghost from_gives = { λ r n. n ≡ (reason_told r).number };
+
+    // Document 02's number.
+    fn from(reason: Reason) -> u8 {
+        match reason {
+            Reason::ArrivalPort => 1,
+            Reason::AutomaticEvent => 2,
+            Reason::OpenPort => 3,
+            Reason::HeldBy(_) => 4,
+            Reason::NothingHolds => 5,
+        }
+    }
 }

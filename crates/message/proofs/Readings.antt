@@ -6,9 +6,8 @@ use mathlib.Core.List.{List}
 use borrow.Author.Tests.{lt-ltb, le-ltb, ltb-false}
 use lib.Dec.{ltb}
 use lib.ListN.{length, drop}
-use Rattle.message.specs.declared.Field.TheVariants.{Present, Absent}
+use Rattle.std.specs.Prelude.{Some, None, Ok, Err}
 use Rattle.message.specs.declared.Message.{Message}
-use Rattle.message.specs.declared.Reading.TheVariants.{Read, Refused}
 use Rattle.message.specs.Mti.{addressed, carries_event, event_at, content_at, barred}
 use Rattle.message.specs.Messages.{bad_node, bad_where_present, bad_nodes, misplaced, content_tests, rest_tests}
 use Rattle.basics.specs.Refusals.{first_of, answered}
@@ -18,7 +17,7 @@ use Rattle.basics.proofs.Firsts.{first_none, first_passed, rest_passed, answered
 use Rattle.message.proofs.Laws.{nodes_source, nodes_destination, nodes_good, Placed, content_rest}
 
 -- The fields that are read are where they are flagged.
-as_flagged : (t : Bool) (x : ℕ) → misplaced t (cond t (Present x) Absent) ≡ false
+as_flagged : (t : Bool) (x : ℕ) → misplaced t (cond t (Some x) None) ≡ false
 as_flagged true x = refl
 as_flagged false x = refl
 
@@ -67,10 +66,10 @@ module _ (s : List ℕ) {m : ℕ} (mti : m ≡ mti_in s) (long : 2 ≤ length s)
 
 -- ---- the answers
 
-pub read_no : (s : List ℕ) {r : ℕ} → r ≡ first_of (read_tests s) → (r ≡ 0 → ⊥) → Refused r ≡ read_of s
+pub read_no : (s : List ℕ) {r : ℕ} → r ≡ first_of (read_tests s) → (r ≡ 0 → ⊥) → Err r ≡ read_of s
 unfolding read_of
-read_no s {r} e h = sym (answered_no Read Refused r (message_in s) h) ∙ ap (λ (n : ℕ). answered Read Refused n (message_in s)) e
+read_no s {r} e h = sym (answered_no Ok Err r (message_in s) h) ∙ ap (λ (n : ℕ). answered Ok Err n (message_in s)) e
 
-pub read_yes : (s : List ℕ) {r : ℕ} {m : Message} → r ≡ first_of (read_tests s) → r ≡ 0 → m ≡ message_in s → Read m ≡ read_of s
+pub read_yes : (s : List ℕ) {r : ℕ} {m : Message} → r ≡ first_of (read_tests s) → r ≡ 0 → m ≡ message_in s → Ok m ≡ read_of s
 unfolding read_of
-read_yes s e z p = ap Read p ∙ sym (answered_yes Read Refused (message_in s) (sym e ∙ z))
+read_yes s e z p = ap Ok p ∙ sym (answered_yes Ok Err (message_in s) (sym e ∙ z))

@@ -7,17 +7,14 @@ use native.Mathlib.Nat.{mod-eq_of_lt}
 use native.Mathlib.Omega.{arith}
 use lib.ListN.{length, take, drop, take-append-drop, length-drop}
 use lib.Seq.{length-take-le, take_at, drop_at, drop-drop}
+use Rattle.std.specs.Prelude.{Option, Some, None as Missing, Ok}
 use Rattle.numbers.specs.Numbers.{number_in, bytes_of, Bytes, number_at}
 use Rattle.numbers.proofs.Laws.{bytes_length, part_bytes, bytes_of_number, number_of_bytes}
-use Rattle.message.specs.declared.Field.{Field}
-use Rattle.message.specs.declared.Field.TheVariants.{Present, Absent}
 use Rattle.message.specs.declared.Message.{Message}
 use Rattle.message.specs.Mti.{addressed, carries_event, event_at, content_at, barred}
 use Rattle.message.specs.Messages.{field_bytes, Below, message_bytes, misplaced, bad_node, bad_where_present, bad_nodes, bad_content, other_source, content_tests}
 use Rattle.basics.specs.Refusals.{None}
 use Rattle.basics.specs.Refusals.None.{none, passed}
-use Rattle.message.specs.declared.Reading.TheVariants.{Read}
-use Rattle.message.specs.declared.Writing.TheVariants.{Written}
 use Rattle.message.specs.Reading.{field_at, fields_in, mti_in, message_in, content_in, read_tests, read_of}
 use Rattle.message.specs.Writing.{write_of, out_after}
 use Rattle.message.proofs.Exactly.{read_accepted, write_accepted, accepted_leaves}
@@ -74,11 +71,11 @@ number_at_lem : (s ys : List ℕ) (at w x : ℕ) → drop at s ≡ bytes_of w x 
 number_at_lem s ys at w x e h = ap number_in (piece_at s (bytes_of w x) ys at w e (bytes_length w x)) ∙ number_of_bytes w x ∙ mod-eq_of_lt h
 
 -- A field that is where its flag says is read back.
-field_at_lem : (flag : Bool) (f : Field) (s ys : List ℕ) (at w : ℕ) → misplaced flag f ≡ false → Below (256 ^ w) f → drop at s ≡ field_bytes w f ++ ys → field_at flag s at w ≡ f
-field_at_lem true (Present x) s ys at w p h e = ap Present (number_at_lem s ys at w x e h)
-field_at_lem false (Present x) s ys at w p h e = absurd (true≢false p)
-field_at_lem true Absent s ys at w p h e = absurd (true≢false p)
-field_at_lem false Absent s ys at w p h e = refl
+field_at_lem : (flag : Bool) (f : Option ℕ) (s ys : List ℕ) (at w : ℕ) → misplaced flag f ≡ false → Below (256 ^ w) f → drop at s ≡ field_bytes w f ++ ys → field_at flag s at w ≡ f
+field_at_lem true (Some x) s ys at w p h e = ap Some (number_at_lem s ys at w x e h)
+field_at_lem false (Some x) s ys at w p h e = absurd (true≢false p)
+field_at_lem true Missing s ys at w p h e = absurd (true≢false p)
+field_at_lem false Missing s ys at w p h e = refl
 
 -- A message whose fields fit their widths and stand where its MTI flags them.
 pub record Fitting (m : Message) : Type 0 where
@@ -124,8 +121,8 @@ module _ (m : Message) (c : List ℕ) (f : Fitting m) where
 -- ---- both ways
 
 -- Bytes that are read are written back to the same bytes, and nothing else of the output changes.
-pub read_then_write : (s : List ℕ) → Bytes s → (m : Message) → read_of s ≡ Read m → (out : List ℕ) → length s ≤ length out
-    → (write_of m (content_in s) out ≡ Written (length s)) × (out_after m (content_in s) out ≡ s ++ drop (length s) out)
+pub read_then_write : (s : List ℕ) → Bytes s → (m : Message) → read_of s ≡ Ok m → (out : List ℕ) → length s ≤ length out
+    → (write_of m (content_in s) out ≡ Ok (length s)) × (out_after m (content_in s) out ≡ s ++ drop (length s) out)
 unfolding fields_in
 read_then_write s h m e out room =
     let accepted = (read_accepted s m).0 e in
@@ -137,20 +134,20 @@ read_then_write s h m e out room =
     let fits : length (message_bytes x c) ≤ length out = rw back room in
     let done = write_done x c out (first_passed free) ((first_none (content_tests x c) refl).1 (rest_passed held)) fits in
     rw accepted.1 (
-      sym done.0 ∙ ap (λ (l : List ℕ). Written (length l)) back,
+      sym done.0 ∙ ap (λ (l : List ℕ). Ok (length l)) back,
       sym done.1 ∙ pasted_first (message_bytes x c) out ∙ ap (λ (l : List ℕ). l ++ drop (length l) out) back,
     )
 
 node_below : (n : ℕ) → bad_node n ≡ false → n < 2 ^ 48
 node_below n e = leb-false (2 ^ 48) n (neither (eqb n 0) (leb (2 ^ 48) n) e).1
 
-destination_below : (f : Field) → bad_where_present f ≡ false → Below (2 ^ 48) f
-destination_below (Present n) e = node_below n e
-destination_below Absent e = tt
+destination_below : (f : Option ℕ) → bad_where_present f ≡ false → Below (2 ^ 48) f
+destination_below (Some n) e = node_below n e
+destination_below Missing e = tt
 
 -- A message that is written is read back as the same message with the same content.
-pub write_then_read : (m : Message) (c out : List ℕ) (n : ℕ) → m.mti < 2 ^ 16 → Below (2 ^ 64) m.event → write_of m c out ≡ Written n
-    → (read_of (take n (out_after m c out)) ≡ Read m) × (content_in (take n (out_after m c out)) ≡ c)
+pub write_then_read : (m : Message) (c out : List ℕ) (n : ℕ) → m.mti < 2 ^ 16 → Below (2 ^ 64) m.event → write_of m c out ≡ Ok n
+    → (read_of (take n (out_after m c out)) ≡ Ok m) × (content_in (take n (out_after m c out)) ≡ c)
 unfolding bad_nodes
 write_then_read m c out n hm he e =
     let accepted = (write_accepted m c out n).0 e in

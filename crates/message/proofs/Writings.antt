@@ -6,17 +6,15 @@ use mathlib.Core.List.{List, [], ◌∷◌, ◌++◌}
 use native.Mathlib.Omega.{arith}
 use borrow.Author.Tests.{lt-ltb, le-ltb}
 use lib.ListN.{length, length-append}
+use Rattle.std.specs.Prelude.{Option, Some, None as Missing, Ok, Err}
 use Rattle.numbers.specs.Numbers.{bytes_of, pasted}
 use Rattle.numbers.proofs.Laws.{bytes_length}
 use Rattle.basics.proofs.Bools.{neither}
-use Rattle.message.specs.declared.Field.{Field}
-use Rattle.message.specs.declared.Field.TheVariants.{Present, Absent}
 use Rattle.message.specs.declared.Message.{Message}
-use Rattle.message.specs.declared.Writing.TheVariants.{Written, NotWritten}
 use Rattle.message.specs.Mti.{addressed, carries_event, content_at, barred}
-use Rattle.basics.specs.Refusals.{refuse, first_of, answered, None}
+use Rattle.basics.specs.Refusals.{refuse, first_of, answered, told_of, None}
 use Rattle.message.specs.Messages.{field_bytes, message_bytes, misplaced, bad_nodes, bad_content, other_source, content_tests}
-use Rattle.message.specs.Writing.{no_room, write_tests, writing_told, write_told, write_of, overwritten, out_after}
+use Rattle.message.specs.Writing.{no_room, write_tests, write_told, write_of, overwritten, out_after}
 use Rattle.message.proofs.Laws.{Placed}
 use Rattle.message.proofs.Tellings.{write_told_lem}
 use Rattle.basics.proofs.Firsts.{first_some, first_none, first_after, first_passed, rest_passed, answered_yes, answered_no}
@@ -24,11 +22,11 @@ use Rattle.numbers.proofs.Pasting.{pasted_first}
 
 -- ---- how long a message is
 
-pub field_length : (w : ℕ) (flag : Bool) (f : Field) → misplaced flag f ≡ false → length (field_bytes w f) ≡ cond flag w 0
-field_length w true (Present x) e = bytes_length w x
-field_length w false (Present x) e = absurd (true≢false e)
-field_length w true Absent e = absurd (true≢false e)
-field_length w false Absent e = refl
+pub field_length : (w : ℕ) (flag : Bool) (f : Option ℕ) → misplaced flag f ≡ false → length (field_bytes w f) ≡ cond flag w 0
+field_length w true (Some x) e = bytes_length w x
+field_length w false (Some x) e = absurd (true≢false e)
+field_length w true Missing e = absurd (true≢false e)
+field_length w false Missing e = refl
 
 -- The fields of a message take as many bytes as its MTI flags.
 pub message_length_lem : (m : Message) (s : List ℕ) → Placed m → length (message_bytes m s) ≡ content_at m.mti + length s
@@ -63,13 +61,13 @@ content_placed m s e =
 
 -- What a refusal's number tells and leaves.
 pub record Answers (n : ℕ) (m : Message) (s out : List ℕ) : Type 0 where
-  pub tells : writing_told (NotWritten n) ≡ write_told m s out
+  pub tells : record { refusal = n; value = [] } ≡ write_told m s out
   pub kept : out ≡ out_after m s out
 
 refused : (n : ℕ) (m : Message) (s out : List ℕ) → (n ≡ 0 → ⊥) → first_of (write_tests m s out) ≡ n → Answers n m s out
 unfolding write_of out_after
 refused n m s out p e = record {
-  tells = ap writing_told (sym (ap (λ (k : ℕ). answered Written NotWritten k (length (message_bytes m s))) e ∙ answered_no Written NotWritten n (length (message_bytes m s)) p)) ∙ write_told_lem m s out;
+  tells = ap told_of (sym (ap (λ (k : ℕ). answered Ok Err k (length (message_bytes m s))) e ∙ answered_no Ok Err n (length (message_bytes m s)) p)) ∙ write_told_lem m s out;
   kept = sym (ap (λ (k : ℕ). answered (overwritten out) (λ _. out) k (message_bytes m s)) e ∙ answered_no (overwritten out) (λ _. out) n (message_bytes m s) p);
 }
 
@@ -87,10 +85,10 @@ module _ (m : Message) (s out : List ℕ) (free : barred m.mti ≡ false) where
     pub write_full : length out < length (message_bytes m s) → Answers 6 m s out
     write_full h = refused 6 m s out (λ z. omega (arith, z)) (last_test ∙ ap (λ (t : Bool). cond t 6 0) (lt-ltb (length out) (length (message_bytes m s)) h))
 
-    pub write_done : length (message_bytes m s) ≤ length out → (Written (length (message_bytes m s)) ≡ write_of m s out) × (pasted 0 (message_bytes m s) out ≡ out_after m s out)
+    pub write_done : length (message_bytes m s) ≤ length out → (Ok (length (message_bytes m s)) ≡ write_of m s out) × (pasted 0 (message_bytes m s) out ≡ out_after m s out)
     unfolding write_of out_after
     write_done h =
         let none-applies = last_test ∙ ap (λ (t : Bool). cond t 6 0) (le-ltb (length out) (length (message_bytes m s)) h) in (
-          sym (answered_yes Written NotWritten (length (message_bytes m s)) none-applies),
+          sym (answered_yes Ok Err (length (message_bytes m s)) none-applies),
           pasted_first (message_bytes m s) out ∙ sym (answered_yes (overwritten out) (λ _. out) (message_bytes m s) none-applies),
         )

@@ -1,21 +1,19 @@
 -- A message and its bytes (document 01, "Messages" and "Refusal numbers").
-use Rattle.std.specs.Prelude.{ℕ, ◌^◌, ◌<◌, Bool, false, not, ◌&&◌, ◌||◌, List, [], ◌∷◌, ◌++◌, eqb, leb, ltb, length}
+use Rattle.std.specs.Prelude.{ℕ, ◌^◌, ◌<◌, Bool, false, not, ◌&&◌, ◌||◌, List, [], ◌∷◌, ◌++◌, eqb, leb, ltb, length, Option, Some, None}
 use Rattle.numbers.specs.Numbers.{number_in, bytes_of}
-use Rattle.message.specs.declared.Field.{Field}
-use Rattle.message.specs.declared.Field.TheVariants.{Present, Absent}
 use Rattle.message.specs.declared.Message.{Message}
 use Rattle.message.specs.Mti.{addressed, carries_event, is_restart, meaning_of, kind_of}
 use Rattle.basics.specs.Refusals.{Test, refuse}
 
 -- A field of w bytes, where it is present.
-abbrev pub field_bytes : ℕ → Field → List ℕ
-field_bytes w (Present x) = bytes_of w x
-field_bytes w Absent = []
+abbrev pub field_bytes : ℕ → Option ℕ → List ℕ
+field_bytes w (Some x) = bytes_of w x
+field_bytes w None = []
 
 -- A field whose number, where it is present, is below n.
-abbrev pub Below : ℕ → Field → Type 0
-Below n (Present x) = x < n
-Below n Absent = Unit {0}
+abbrev pub Below : ℕ → Option ℕ → Type 0
+Below n (Some x) = x < n
+Below n None = Unit {0}
 
 abbrev pub message_bytes : Message → List ℕ → List ℕ
 message_bytes m content = bytes_of 2 m.mti ++ (bytes_of 6 m.source ++ (field_bytes 6 m.destination ++ (field_bytes 8 m.event ++ content)))
@@ -24,17 +22,17 @@ message_bytes m content = bytes_of 2 m.mti ++ (bytes_of 6 m.source ++ (field_byt
 abbrev pub bad_node : ℕ → Bool
 bad_node n = eqb n 0 || leb (2 ^ 48) n
 
-abbrev pub bad_where_present : Field → Bool
-bad_where_present (Present n) = bad_node n
-bad_where_present Absent = false
+abbrev pub bad_where_present : Option ℕ → Bool
+bad_where_present (Some n) = bad_node n
+bad_where_present None = false
 
 unfoldable pub bad_nodes : Message → Bool
 bad_nodes m = bad_node m.source || bad_where_present m.destination
 
 -- Refusal 4: content length not in the table; when writing, also a field present or absent against its flag.
-abbrev pub misplaced : Bool → Field → Bool
-misplaced flag (Present x) = not flag
-misplaced flag Absent = flag
+abbrev pub misplaced : Bool → Option ℕ → Bool
+misplaced flag (Some x) = not flag
+misplaced flag None = flag
 
 unfoldable pub bad_content : Message → List ℕ → Bool
 bad_content m content =

@@ -1,17 +1,13 @@
 -- What reading a byte string answers (document 01, "Messages"; order of refusals when reading).
-use Rattle.std.specs.Prelude.{ℕ, Bool, cond, List, [], ◌∷◌, ltb, length, drop}
+use Rattle.std.specs.Prelude.{ℕ, Bool, cond, List, ◌∷◌, ltb, length, drop, Option, Some, None, Result, Ok, Err}
 use Rattle.numbers.specs.Numbers.{number_at}
-use Rattle.message.specs.declared.Field.{Field}
-use Rattle.message.specs.declared.Field.TheVariants.{Present, Absent}
 use Rattle.message.specs.declared.Message.{Message}
-use Rattle.message.specs.declared.Reading.{Reading}
-use Rattle.message.specs.declared.Reading.TheVariants.{Read, Refused}
 use Rattle.message.specs.Mti.{addressed, carries_event, event_at, content_at, barred}
 use Rattle.message.specs.Messages.{content_tests}
-use Rattle.basics.specs.Refusals.{Test, refuse, first_of, answered, Told, told, refused, told_by}
+use Rattle.basics.specs.Refusals.{Test, refuse, first_of, answered, Told, told_by}
 
-abbrev pub field_at : Bool → List ℕ → ℕ → ℕ → Field
-field_at flag s at w = cond flag (Present (number_at s at w)) Absent
+abbrev pub field_at : Bool → List ℕ → ℕ → ℕ → Option ℕ
+field_at flag s at w = cond flag (Some (number_at s at w)) None
 
 abbrev pub mti_in : List ℕ → ℕ
 mti_in s = number_at s 0 2
@@ -42,19 +38,10 @@ misses_fields s = ltb (length s) (content_at (mti_in s))
 abbrev pub read_tests : List ℕ → List Test
 read_tests s = refuse 1 (short s) ∷ refuse 2 (barred (mti_in s)) ∷ refuse 1 (misses_fields s) ∷ content_tests (message_in s) (content_in s)
 
--- Document 01's number and values for each case of the answer: 0 and the message, or the refusal's number and nothing beside it.
-abbrev pub reading_told : Reading → Told (List Message)
-reading_told (Read m) = told (m ∷ [])
-reading_told (Refused n) = refused n []
-
--- A refusal's number, 0 for a message.
-abbrev pub refused_with : Reading → ℕ
-refused_with r = (reading_told r).refusal
-
--- What reading a byte string tells.
+-- What reading a byte string tells: 0 and the message, or the refusal's number and nothing beside it.
 unfoldable pub read_told : List ℕ → Told (List Message)
 read_told s = told_by (read_tests s) (message_in s)
 
 -- The one answer that tells so.
-unfoldable pub read_of : List ℕ → Reading
-read_of s = answered Read Refused (first_of (read_tests s)) (message_in s)
+unfoldable pub read_of : List ℕ → Result Message ℕ
+read_of s = answered Ok Err (first_of (read_tests s)) (message_in s)

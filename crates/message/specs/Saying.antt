@@ -1,10 +1,8 @@
 -- What a message says to a box or to a board (document 01, "Gateway": "For a message accepted at port q"; "Node": "Receive").
-use Rattle.std.specs.Prelude.{ℕ}
+use Rattle.std.specs.Prelude.{ℕ, Option, Some, None}
 use Rattle.range.specs.Range.{single, block_of}
 use Rattle.message.specs.declared.Kind.{Kind}
 use Rattle.message.specs.declared.Kind.TheVariants.{InitializationComplete, EventReport, IdentifyConsumer, IdentifyProducer, ConsumerIdentified, ProducerIdentified, ConsumerRangeIdentified, ProducerRangeIdentified, IdentifyEvents, LearnEvent, Other}
-use Rattle.message.specs.declared.Field.{Field}
-use Rattle.message.specs.declared.Field.TheVariants.{Present, Absent}
 use Rattle.message.specs.declared.Message.{Message}
 use Rattle.message.specs.declared.Saying.{Saying}
 use Rattle.message.specs.declared.Saying.TheVariants.{Report, Announcement, Restart, Inquiry, InquiryForAll, Learn, Nothing}
@@ -18,12 +16,12 @@ abbrev pub consumer : ℕ
 consumer = 1
 
 -- What is said of an event. Both MTIs of a report flag one, and so do all others that say something of one; a message without it says nothing.
-abbrev pub of_event : (ℕ → Saying) → Field → Saying
-of_event says (Present e) = says e
-of_event says Absent = Nothing
+abbrev pub of_event : (ℕ → Saying) → Option ℕ → Saying
+of_event says (Some e) = says e
+of_event says None = Nothing
 
 -- Consumer Identified announces its single event, Consumer Range Identified its block; Identify Events is for all or for its destination.
-abbrev pub saying : Kind → Field → Field → Saying
+abbrev pub saying : Kind → Option ℕ → Option ℕ → Saying
 saying EventReport event destination = of_event Report event
 saying ConsumerIdentified event destination = of_event (λ e. Announcement (single e)) event
 saying ConsumerRangeIdentified event destination = of_event (λ r. Announcement (block_of r)) event

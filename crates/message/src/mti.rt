@@ -54,14 +54,5 @@ pub(crate) fn event_at(mti: u16) -> usize
 pub(crate) fn barred(mti: u16) -> bool
     ensures { result ≡ is_barred mti }
 {
-    if mti / 0x8000 % 2 == 1 {
-        return true;
-    }
-    if mti / 0x4000 % 2 == 1 {
-        return true;
-    }
-    if mti == 0x0F15 {
-        return true;
-    }
-    mti == 0x0F16
+    mti / 0x8000 % 2 == 1 || mti / 0x4000 % 2 == 1 || mti == 0x0F15 || mti == 0x0F16
 }

@@ -2,8 +2,9 @@
 ghost use Rattle.std.specs.Prelude.{◌≡◌};
 ghost use Rattle.message.specs.Saying.{saying, said_by};
 
-use crate::{Field, Kind, Message, Saying, mti};
+use crate::{Kind, Message, Saying, mti};
 
+// The two roles, in the numbers that the lists of slots have, which C lends.
 const PRODUCER: u8 = 0;
 
 const CONSUMER: u8 = 1;
@@ -13,47 +14,23 @@ pub fn said_by(message: Message) -> Saying
     ensures { result ≡ said_by message }
 {
     let meaning = mti::meaning_of(message.mti);
-    let kind = meaning.kind;
-    let event = message.event;
-    let destination = message.destination;
-    match event {
-        Field::Present(number) => with_event(kind, number, destination),
-        Field::Absent => without_event(kind, destination),
-    }
+    saying(meaning.kind, message.event, message.destination)
 }
 
-fn with_event(kind: Kind, number: u64, destination: Field) -> Saying
-    ensures { result ≡ saying kind (Field.Present number) destination }
+fn saying(kind: Kind, event: Option<u64>, destination: Option<u64>) -> Saying
+    ensures { result ≡ saying kind event destination }
 {
-    match kind {
-        Kind::EventReport => Saying::Report(number),
-        Kind::ConsumerIdentified => Saying::Announcement(range::single(number)),
-        Kind::ConsumerRangeIdentified => Saying::Announcement(range::block_of(number)),
-        Kind::InitializationComplete => Saying::Restart,
-        Kind::IdentifyProducer => Saying::Inquiry(PRODUCER, number),
-        Kind::IdentifyConsumer => Saying::Inquiry(CONSUMER, number),
-        Kind::IdentifyEvents => Saying::InquiryForAll(destination),
-        Kind::LearnEvent => Saying::Learn(number),
-        Kind::ProducerIdentified => Saying::Nothing,
-        Kind::ProducerRangeIdentified => Saying::Nothing,
-        Kind::Other => Saying::Nothing,
-    }
-}
-
-fn without_event(kind: Kind, destination: Field) -> Saying
-    ensures { result ≡ saying kind Field.Absent destination }
-{
-    match kind {
-        Kind::InitializationComplete => Saying::Restart,
-        Kind::IdentifyEvents => Saying::InquiryForAll(destination),
-        Kind::EventReport => Saying::Nothing,
-        Kind::ConsumerIdentified => Saying::Nothing,
-        Kind::ConsumerRangeIdentified => Saying::Nothing,
-        Kind::IdentifyProducer => Saying::Nothing,
-        Kind::IdentifyConsumer => Saying::Nothing,
-        Kind::LearnEvent => Saying::Nothing,
-        Kind::ProducerIdentified => Saying::Nothing,
-        Kind::ProducerRangeIdentified => Saying::Nothing,
-        Kind::Other => Saying::Nothing,
+    match (kind, event) {
+        (Kind::InitializationComplete, _) => Saying::Restart,
+        (Kind::IdentifyEvents, _) => Saying::InquiryForAll(destination),
+        (Kind::EventReport, Some(number)) => Saying::Report(number),
+        (Kind::ConsumerIdentified, Some(number)) => Saying::Announcement(range::single(number)),
+        (Kind::ConsumerRangeIdentified, Some(number)) => Saying::Announcement(range::block_of(
+            number,
+        )),
+        (Kind::IdentifyProducer, Some(number)) => Saying::Inquiry(PRODUCER, number),
+        (Kind::IdentifyConsumer, Some(number)) => Saying::Inquiry(CONSUMER, number),
+        (Kind::LearnEvent, Some(number)) => Saying::Learn(number),
+        _ => Saying::Nothing,
     }
 }

@@ -1,46 +1,40 @@
 // A message to bytes.
 ghost use Rattle.std.specs.Prelude.{◌≡◌, ◌+◌, ◌≤◌, ◌++◌, length};
 ghost use Rattle.numbers.specs.Numbers.{bytes_of, pasted};
+ghost use Rattle.basics.specs.Refusals.{in_numbers, told_of};
 ghost use Rattle.message.specs.Messages.{field_bytes, message_bytes};
-ghost use Rattle.message.specs.Writing.{writing_told, write_told, out_after};
+ghost use Rattle.message.specs.Writing.{write_told, out_after};
 
-use crate::{Field, Message, Writing, content, mti};
+use crate::{Message, content, mti};
+use basics::Refusal;
 
 // Writes the message with its content to the start of out, and answers how many bytes it took, or the refusal.
-pub fn write(message: Message, body: &[u8], out: &mut [u8]) -> Writing
-    ensures result_value { writing_told result ≡ write_told message body.now out.old }
+pub fn write(message: Message, body: &[u8], out: &mut [u8]) -> Result<usize, Refusal>
+    ensures result_value { told_of (in_numbers result) ≡ write_told message body.now out.old }
     ensures out_after { out.new ≡ out_after message body.now out.old }
 {
-    let code = message.mti;
-    if mti::barred(code) {
-        return Writing::NotWritten(2);
+    if mti::barred(message.mti) {
+        return Err(Refusal::BarredMti);
     }
-    let refusal = content::refusal_of(message, body);
-    if refusal != 0 {
-        return Writing::NotWritten(refusal);
-    }
-    let at = mti::content_at(code);
+    content::check(message, body)?;
+    let at = mti::content_at(message.mti);
     if out.len() < at {
-        return Writing::NotWritten(6);
+        return Err(Refusal::NoRoom);
     }
     if out.len() - at < body.len() {
-        return Writing::NotWritten(6);
+        return Err(Refusal::NoRoom);
     }
     put_message(message, body, out);
-    Writing::Written(at + body.len())
+    Ok(at + body.len())
 }
 
 fn put_message(message: Message, body: &[u8], out: &mut [u8])
     requires { length (message_bytes message body.now) ≤ length out.old }
     ensures { out.new ≡ pasted 0 (message_bytes message body.now) out.old }
 {
-    let code = message.mti as u64;
-    let source = message.source;
-    let destination = message.destination;
-    let event = message.event;
-    put_front(code, source, out);
-    let after_destination = put_field(destination, 6, 8, out);
-    let after_event = put_field(event, 8, after_destination, out);
+    put_front(message.mti as u64, message.source, out);
+    let after_destination = put_field(message.destination, 6, 8, out);
+    let after_event = put_field(message.event, 8, after_destination, out);
     put_body(body, after_event, out);
 }
 
@@ -54,17 +48,17 @@ fn put_front(code: u64, source: u64, out: &mut [u8])
 }
 
 // Writes a field that is present at its place, and answers the place after it.
-fn put_field(field: Field, width: usize, at: usize, out: &mut [u8]) -> usize
+fn put_field(field: Option<u64>, width: usize, at: usize, out: &mut [u8]) -> usize
     requires { at + length (field_bytes width field) ≤ length out.old }
     ensures value { result ≡ at + length (field_bytes width field) }
     ensures out_after { out.new ≡ pasted at (field_bytes width field) out.old }
 {
     match field {
-        Field::Present(x) => {
+        Some(x) => {
             numbers::write_at(x, width, at, out);
             at + width
         }
-        Field::Absent => at,
+        None => at,
     }
 }
 
@@ -72,9 +66,5 @@ fn put_body(body: &[u8], at: usize, out: &mut [u8])
     requires { at + length body.now ≤ length out.old }
     ensures { out.new ≡ pasted at body.now out.old }
 {
-    let mut i = 0;
-    while i < body.len() {
-        out[at + i] = body[i];
-        i += 1;
-    }
+    out[at..at + body.len()].copy_from_slice(body);
 }

@@ -1,205 +1,115 @@
 // What is printed of a case.
-use message::{Field, Kind, Message, Reading, Saying, Writing};
+use basics::Refusal;
+use message::{Kind, Message, Saying};
 use std::io;
 
 // A byte string: the MTI, the source, and the number that fills the rest, six bytes at a time.
 pub(crate) fn read(
     rt: &impl Print,
-    mti: u64,
+    mti: u16,
     source: u64,
     rest: u64,
     length: usize,
 ) -> io::Result<()> {
     let bytes = laid_out(mti, source, rest);
-    if length <= 512 {
-        hex(rt, mti, 4)?;
-        text(rt, b" ")?;
-        decimal(rt, length as u64)?;
-        try_to_read(rt, &bytes[0..length])?;
-        text(rt, b"\n")?;
+    let Some(bytes) = bytes.get(..length) else {
+        return Ok(());
+    };
+    print!(rt; "{mti:04x} {length}")?;
+    match message::read(bytes) {
+        Ok(m) => {
+            describe(rt, m)?;
+            write_back(rt, m, bytes)?;
+        }
+        Err(refusal) => refused(rt, refusal)?,
     }
-    Ok(())
+    println!(rt; "")
 }
 
-fn laid_out(mti: u64, source: u64, rest: u64) -> [u8; 512] {
+fn laid_out(mti: u16, source: u64, rest: u64) -> [u8; 512] {
     let mut bytes = [0u8; 512];
-    fill(rest, &mut bytes);
-    let head = mti % 0x1_0000 * 0x1_0000_0000_0000 + source % 0x1_0000_0000_0000;
-    numbers::write(head, &mut bytes[0..8]);
+    numbers::write_at(u64::from(mti), 2, 0, &mut bytes);
+    numbers::write_at(source, 6, 2, &mut bytes);
+    for six in bytes[8..].chunks_mut(6) {
+        numbers::write(rest, six);
+    }
     bytes
 }
 
-// Six bytes at a time from byte 8 on.
-fn fill(rest: u64, bytes: &mut [u8]) {
-    let mut six = [0u8; 6];
-    numbers::write(rest, &mut six);
-    let mut i = 0;
-    while i < bytes.len() {
-        bytes[i] = six[(i + 4) % 6];
-        i += 1;
-    }
-}
-
-fn try_to_read(rt: &impl Print, bytes: &[u8]) -> io::Result<()> {
-    match message::read(bytes) {
-        Reading::Read(m) => {
-            describe(rt, m)?;
-            let at = message::content_at(m.mti);
-            if at <= bytes.len() {
-                write_back(rt, m, bytes, &bytes[at..])?;
-            }
-            Ok(())
-        }
-        Reading::Refused(n) => refused(rt, n),
-    }
-}
-
-fn write_back(rt: &impl Print, m: Message, bytes: &[u8], content: &[u8]) -> io::Result<()> {
-    text(rt, b", content ")?;
-    decimal(rt, content.len() as u64)?;
+// Writes what was read once more, into as much room and into a byte less.
+fn write_back(rt: &impl Print, m: Message, bytes: &[u8]) -> io::Result<()> {
     let mut out = [0u8; 512];
-    let length = bytes.len();
-    if length <= 512 {
-        once_more(rt, m, bytes, content, &mut out[0..length])?;
+    let Some(content) = bytes.get(message::content_at(m.mti)..) else {
+        return Ok(());
+    };
+    let Some(room) = out.get_mut(..bytes.len()) else {
+        return Ok(());
+    };
+    print!(rt; ", content {}", content.len())?;
+    match message::write(m, content, room) {
+        Ok(n) if n == bytes.len() && bytes == &*room => print!(rt; ", written back")?,
+        Ok(_) => print!(rt; ", written otherwise")?,
+        Err(refusal) => refused(rt, refusal)?,
     }
-    one_byte_short(rt, m, content, length)
-}
-
-// The same bytes again.
-fn once_more(
-    rt: &impl Print,
-    m: Message,
-    bytes: &[u8],
-    content: &[u8],
-    out: &mut [u8],
-) -> io::Result<()> {
-    match message::write(m, content, out) {
-        Writing::Written(n) => compare(rt, n, bytes, out),
-        Writing::NotWritten(n) => refused(rt, n),
+    let Some((_, room)) = room.split_first_mut() else {
+        return Ok(());
+    };
+    print!(rt; ", one byte short")?;
+    match message::write(m, content, room) {
+        Ok(_) => print!(rt; " written"),
+        Err(refusal) => refused(rt, refusal),
     }
-}
-
-fn one_byte_short(rt: &impl Print, m: Message, content: &[u8], length: usize) -> io::Result<()> {
-    let mut out = [0u8; 512];
-    if 0 < length {
-        if length <= 512 {
-            text(rt, b", one byte short")?;
-            match message::write(m, content, &mut out[0..length - 1]) {
-                Writing::Written(_) => text(rt, b" written")?,
-                Writing::NotWritten(n) => refused(rt, n)?,
-            }
-        }
-    }
-    Ok(())
-}
-
-fn compare(rt: &impl Print, n: usize, bytes: &[u8], out: &[u8]) -> io::Result<()> {
-    if n == bytes.len() {
-        if bytes == out {
-            return text(rt, b", written back");
-        }
-    }
-    text(rt, b", written otherwise")
 }
 
 // A message that is made: how many bytes of content, and of room.
-pub(crate) fn write(
-    rt: &impl Print,
-    mti: u16,
-    source: u64,
-    destination: Field,
-    event: Field,
-    content: usize,
-    room: usize,
-) -> io::Result<()> {
+pub(crate) fn write(rt: &impl Print, m: Message, content: usize, room: usize) -> io::Result<()> {
     let body = [7u8; 512];
     let mut out = [0u8; 512];
-    text(rt, b"write ")?;
-    hex(rt, mti as u64, 4)?;
-    let m = Message {
-        mti,
-        source,
-        destination,
-        event,
-    };
+    print!(rt; "write {:04x}", m.mti)?;
     describe(rt, m)?;
-    if content <= 512 {
-        if room <= 512 {
-            text(rt, b", content ")?;
-            decimal(rt, content as u64)?;
-            text(rt, b", room ")?;
-            decimal(rt, room as u64)?;
-            match message::write(m, &body[0..content], &mut out[0..room]) {
-                Writing::Written(n) => {
-                    text(rt, b": ")?;
-                    decimal(rt, n as u64)?;
-                }
-                Writing::NotWritten(n) => refused(rt, n)?,
-            }
+    if let Some(body) = body.get(..content)
+        && let Some(out) = out.get_mut(..room)
+    {
+        print!(rt; ", content {content}, room {room}")?;
+        match message::write(m, body, out) {
+            Ok(n) => print!(rt; ": {n}")?,
+            Err(refusal) => refused(rt, refusal)?,
         }
     }
-    text(rt, b"\n")
+    println!(rt; "")
 }
 
 fn describe(rt: &impl Print, m: Message) -> io::Result<()> {
-    let meaning = message::meaning_of(m.mti);
-    let k = meaning.kind;
-    let destination = m.destination;
-    let event = m.event;
-    kind(rt, k)?;
-    text(rt, b", from ")?;
-    hex(rt, m.source, 1)?;
-    field(rt, b", to ", destination)?;
-    field(rt, b", event ", event)?;
-    let said = message::said_by(m);
-    if let Saying::Announcement(b) = said {
-        text(rt, b", announces ")?;
-        hex(rt, b.start, 1)?;
-        text(rt, b" k ")?;
-        decimal(rt, b.k as u64)?;
+    let kind = name_of(message::meaning_of(m.mti).kind);
+    print!(rt; ": {kind}, from {:x}", m.source)?;
+    if let Some(destination) = m.destination {
+        print!(rt; ", to {destination:x}")?;
+    }
+    if let Some(event) = m.event {
+        print!(rt; ", event {event:x}")?;
+    }
+    if let Saying::Announcement(block) = message::said_by(m) {
+        print!(rt; ", announces {:x} k {}", block.start, block.k)?;
     }
     Ok(())
 }
 
-fn field(rt: &impl Print, name: &[u8], f: Field) -> io::Result<()> {
-    match f {
-        Field::Present(x) => {
-            text(rt, name)?;
-            hex(rt, x, 1)
-        }
-        Field::Absent => Ok(()),
+fn name_of(kind: Kind) -> &'static str {
+    match kind {
+        Kind::InitializationComplete => "initialization complete",
+        Kind::EventReport => "event report",
+        Kind::IdentifyConsumer => "identify consumer",
+        Kind::IdentifyProducer => "identify producer",
+        Kind::ConsumerIdentified => "consumer identified",
+        Kind::ProducerIdentified => "producer identified",
+        Kind::ConsumerRangeIdentified => "consumer range identified",
+        Kind::ProducerRangeIdentified => "producer range identified",
+        Kind::IdentifyEvents => "identify events",
+        Kind::LearnEvent => "learn event",
+        Kind::Other => "other",
     }
 }
 
-fn kind(rt: &impl Print, k: Kind) -> io::Result<()> {
-    match k {
-        Kind::InitializationComplete => text(rt, b": initialization complete"),
-        Kind::EventReport => text(rt, b": event report"),
-        Kind::IdentifyConsumer => text(rt, b": identify consumer"),
-        Kind::IdentifyProducer => text(rt, b": identify producer"),
-        Kind::ConsumerIdentified => text(rt, b": consumer identified"),
-        Kind::ProducerIdentified => text(rt, b": producer identified"),
-        Kind::ConsumerRangeIdentified => text(rt, b": consumer range identified"),
-        Kind::ProducerRangeIdentified => text(rt, b": producer range identified"),
-        Kind::IdentifyEvents => text(rt, b": identify events"),
-        Kind::LearnEvent => text(rt, b": learn event"),
-        Kind::Other => text(rt, b": other"),
-    }
-}
-
-fn refused(rt: &impl Print, n: u8) -> io::Result<()> {
-    text(rt, b": refused ")?;
-    decimal(rt, n as u64)
-}
-
-fn hex(rt: &impl Print, n: u64, width: usize) -> io::Result<()> {
-    print!(rt; "{n:0width$x}")
-}
-
-fn decimal(rt: &impl Print, n: u64) -> io::Result<()> {
-    print!(rt; "{n}")
-}
-
-fn text(rt: &impl Print, t: &[u8]) -> io::Result<()> {
-    rt.write_all(t)
+fn refused(rt: &impl Print, refusal: Refusal) -> io::Result<()> {
+    print!(rt; ": refused {}", u8::from(refusal))
 }

@@ -1,9 +1,8 @@
 pub mod Limits
 pub mod Choosing
-pub mod Marks
 pub mod Matching
-pub mod Others
 pub mod Replying
+pub mod Lending
 pub mod Written
 pub mod Calling
 pub mod Tests

@@ -1,51 +1,43 @@
 -- Out of bounds, by its tests in the code's order.
-use Prim.Native.Nat.{ℕ, ◌≤◌, ◌<◌}
-use mathlib.Core.Path.{◌≡◌, refl, sym}
-use mathlib.Core.Bool.{Bool, true, false}
-use borrow.Author.Tests.{leb-false, ltb-false}
+use Prim.Native.Nat.{ℕ, ◌≤◌}
+use mathlib.Core.Path.{◌≡◌, refl, sym, ap, ◌∙◌}
+use mathlib.Core.Bool.{Bool, true, not}
+use borrow.Author.Tests.{ltb-false, ne_eqb}
+use lib.Dec.{eqb}
+use Rattle.std.specs.Prelude.{Result, Ok, Err}
+use Rattle.std.specs.Result.{is_err}
+use Rattle.basics.specs.declared.Refusal.{Refusal}
+use Rattle.basics.proofs.Numbers.{refusal_numbered}
+use Rattle.range.specs.Range.{has_number}
+use Rattle.range.specs.Answer.{number_told}
+use Rattle.node_rules.specs.declared.Node.{Node}
 use lib.ListN.{length}
-use Rattle.range.specs.Range.{is_block}
-use Rattle.range.proofs.Laws.{number_parts}
-use Rattle.message.specs.Messages.{bad_node}
-use Rattle.basics.specs.Refusals.{first_of}
+use Rattle.range.proofs.Laws.{number_parts, number_says}
+use Rattle.basics.specs.Refusals.{first_of, in_numbers, refusal_in, refusal_number, told_or}
 use Rattle.basics.proofs.Firsts.{first_none, first_passed, rest_passed}
-use Rattle.node_rules.specs.Calls.{board_tests, slot_tests, reply_tests}
+use Rattle.node_rules.specs.Calls.{board_tests, reply_tests}
 use Rattle.node_rules.proofs.Bounds.{in_bounds}
-use Rattle.node.specs.Lent.{EqualLengths}
-use Rattle.node_rules.specs.Boards.{Slots, Board, count, bad_lengths, bad_record, bad_slots, out_of_bounds}
+use Rattle.node.specs.Lent.{Checked}
+use Rattle.node_rules.specs.Boards.{Slots, Board, bad_lengths, out_of_bounds}
+
+-- A block has a number unless it is refused one.
+pub unnumbered : (n : Node) (r : Result ℕ Refusal) → told_or 0 (in_numbers r) ≡ number_told n.automatic → is_err r ≡ not (has_number n.automatic)
+unnumbered n r e = by_case r ∙ sym (ap not (number_says n.automatic r r e refl))
+  where
+    by_case : (r : Result ℕ Refusal) → is_err r ≡ not (eqb (refusal_in r) 0)
+    by_case (Ok x) = refl
+    by_case (Err k) = sym (ap not (ne_eqb (refusal_number k) 0 (refusal_numbered k)))
 
 abbrev pub unequal : Slots → Bool
 unequal s = bad_lengths (length s.roles) (length s.events) (length s.statuses) (length s.marks)
 
-module _ (b : Board) where
-  pub bounds_lengths : unequal b.slots ≡ true → out_of_bounds b ≡ true
-  unfolding out_of_bounds
-  bounds_lengths l = rw l
+pub bounds_lengths : (b : Board) → unequal b.slots ≡ true → out_of_bounds b ≡ true
+unfolding out_of_bounds
+bounds_lengths b l = rw l
 
-  module _ (l : unequal b.slots ≡ false) where
-    pub bounds_record : bad_record b.node ≡ true → out_of_bounds b ≡ true
-    unfolding out_of_bounds
-    bounds_record r = rw (l, r)
-
-    module _ (r : bad_record b.node ≡ false) where
-      pub bounds_slots : bad_slots b.node.state b.slots ≡ true → out_of_bounds b ≡ true
-      unfolding out_of_bounds
-      bounds_slots s = rw (l, r, s)
-
-      pub bounds_good : bad_slots b.node.state b.slots ≡ false → out_of_bounds b ≡ false
-      unfolding out_of_bounds
-      bounds_good s = rw (l, r, s)
-
--- What a board has that passes the tests of every call.
-pub record Checked (b : Board) : Type 0 where
-  pub node : bad_node b.node.id ≡ false
-  pub block : is_block b.node.automatic ≡ true
-  pub lengths : EqualLengths b.slots
-  pub few : count b.slots ≤ 64
-
-pub checked : (b : Board) → first_of (board_tests b) ≡ 0 → Checked b
+pub checked : (b : Board) → 0 ≡ first_of (board_tests b) → Checked b
 checked b h =
-    let passed = (first_none (board_tests b) refl).0 h in
+    let passed = (first_none (board_tests b) refl).0 (sym h) in
     let l = in_bounds b (first_passed passed) in
     record {
       node = first_passed (rest_passed passed);
@@ -53,9 +45,6 @@ checked b h =
       lengths = record { events = l.events; statuses = l.statuses; marks = l.marks };
       few = l.few;
     }
-
-pub slot_there : (b : Board) (i : ℕ) → first_of (slot_tests b i) ≡ 0 → i < count b.slots
-slot_there b i h = leb-false (count b.slots) i (first_passed (rest_passed ((first_none (slot_tests b i) refl).0 h)))
 
 -- The messages fit.
 pub room_enough : (bytes room : ℕ) → 0 ≡ first_of (reply_tests bytes room) → bytes ≤ room

@@ -5,11 +5,13 @@ use mathlib.Core.List.{List, [], ◌∷◌}
 use native.Mathlib.Omega.{arith}
 use lib.ListN.{length}
 use Rattle.basics.specs.Sets.{set_of}
-use Rattle.basics.specs.Refusals.{Test, first_of, answered}
+use Rattle.basics.specs.Refusals.{Test, first_of, answered, refusal_number}
+use Rattle.std.specs.Prelude.{Ok, Err}
+use Rattle.basics.specs.declared.Refusal.{Refusal}
+use Rattle.basics.proofs.Numbers.{refusal_numbered}
 use Rattle.basics.proofs.Firsts.{first_some, first_after}
 use Rattle.message.specs.declared.Message.{Message}
 use Rattle.message.specs.declared.Saying.{Saying}
-use Rattle.message.specs.declared.Reading.TheVariants.{Read, Refused}
 use Rattle.message.specs.Reading.{message_in, read_tests, read_of}
 use Rattle.message.proofs.Exactly.{read_accepted}
 use Rattle.node_rules.specs.declared.Call.TheVariants.{Receive}
@@ -49,16 +51,16 @@ module _ (b : Board) (bytes : List ℕ) (room : ℕ) where
   room_tests = reply_tests (size (replies b (heard_in b bytes))) room
 
   -- The number of a reading's refusal is that of its tests.
-  pub receive_unread : (n : ℕ) → read_of bytes ≡ Refused n → (first_of (call_tests b Receive bytes room) ≡ n) × (n ≡ 0 → ⊥)
+  pub receive_unread : (r : Refusal) → read_of bytes ≡ Err (refusal_number r) → first_of (call_tests b Receive bytes room) ≡ refusal_number r
   unfolding read_of
-  receive_unread n e = let r = go (first_of (read_tests bytes)) e in (first_some (read_tests bytes) room_tests (λ z. r.1 (sym r.0 ∙ z)) ∙ r.0, r.1)
+  receive_unread r e = let s = go (first_of (read_tests bytes)) e in first_some (read_tests bytes) room_tests (λ z. refusal_numbered r (sym s ∙ z)) ∙ s
     where
-      go : (k : ℕ) → answered Read Refused k (message_in bytes) ≡ Refused n → (k ≡ n) × (n ≡ 0 → ⊥)
+      go : (k : ℕ) → answered Ok Err k (message_in bytes) ≡ Err (refusal_number r) → k ≡ refusal_number r
       go zero e = let z : ◌≡◌ {A = ℕ} 0 1 = cc in absurd (omega (arith, z))
-      go (suc k) e = let s : suc k ≡ n = cc in (s, λ z. omega (arith, s, z))
+      go (suc k) e = cc
 
   -- A message was read, and so many slots answer what it says to the node.
-  module _ (m : Message) (e : read_of bytes ≡ Read m) (s : Saying) (heard : s ≡ heard_by b.node m) where
+  module _ (m : Message) (e : read_of bytes ≡ Ok m) (s : Saying) (heard : s ≡ heard_by b.node m) where
     pub heard_in_lem : s ≡ heard_in b bytes
     heard_in_lem = heard ∙ ap (heard_by b.node) ((read_accepted bytes m).0 e).1
 

@@ -8,7 +8,8 @@ use borrow.Author.Tests.{eq-eqb, ne_eqb, le-leb, lt-leb, lt-ltb, le-ltb}
 use lib.Dec.{leb, ltb}
 use lib.ListN.{length}
 use Rattle.numbers.specs.Numbers.{bytes_of, pasted}
-use Rattle.basics.specs.Refusals.{first_of}
+use Rattle.basics.specs.declared.Refusal.{Refusal}
+use Rattle.basics.specs.Refusals.{first_of, refusal_number}
 use Rattle.basics.proofs.Sets.{nobody}
 use Rattle.message.specs.Saying.{producer}
 use Rattle.message.specs.Messages.{bad_node, message_bytes}
@@ -67,14 +68,14 @@ module _ (b : Board) (i : ℕ) (bytes : List ℕ) where
   pub produce_bytes : (out : List ℕ) → pasted 0 (message_bytes (report b i) []) out ≡ pasted 0 (all_bytes (accepted b (Produce i) bytes).sent) out
   produce_bytes out = ap (λ (l : List ℕ). pasted 0 l out) (sym report_bytes)
 
-  module _ (room : ℕ) {n : ℕ} (e : n ≡ first_of (slot_tests b i)) (z : n ≡ 0 → ⊥) where
-    pub announce_slot : first_of (call_tests b (Announce i) bytes room) ≡ n
-    announce_slot = refused_by (slot_tests b i) (reply_tests (size (identifying b (i ∷ []))) room) e z
+  module _ (room : ℕ) (r : Refusal) (e : refusal_number r ≡ first_of (slot_tests b i)) where
+    pub announce_slot : first_of (call_tests b (Announce i) bytes room) ≡ refusal_number r
+    announce_slot = refused_by (slot_tests b i) (reply_tests (size (identifying b (i ∷ []))) room) r e
 
-    pub produce_slot : first_of (call_tests b (Produce i) bytes room) ≡ n
-    produce_slot = refused_by (slot_tests b i) (producer_tests b i ++ reply_tests (size (report b i ∷ [])) room) e z
+    pub produce_slot : first_of (call_tests b (Produce i) bytes room) ≡ refusal_number r
+    produce_slot = refused_by (slot_tests b i) (producer_tests b i ++ reply_tests (size (report b i ∷ [])) room) r e
 
-  module _ (room : ℕ) (there : first_of (slot_tests b i) ≡ 0) where
+  module _ (room : ℕ) (there : 0 ≡ first_of (slot_tests b i)) where
     pub announce_room : first_of (call_tests b (Announce i) bytes room) ≡ first_of (reply_tests (1 * 16) room)
     announce_room =
         passed_by (slot_tests b i) (reply_tests (size (identifying b (i ∷ []))) room) refl there

@@ -1,11 +1,12 @@
 -- What a call of the code leaves: its answer in numbers, the slots and the output.
-use Rattle.std.specs.Prelude.{ℕ, ◌≡◌, List, [], length}
+use Rattle.std.specs.Prelude.{ℕ, List, length}
+use Rattle.basics.specs.Refusals.{first_of, answered}
 use Rattle.basics.specs.Sets.{set_of}
 use Rattle.node_rules.specs.declared.Node.{Node}
 use Rattle.node_rules.specs.declared.Call.{Call}
-use Rattle.node_rules.specs.Boards.{Slots}
+use Rattle.node_rules.specs.Boards.{Slots, Board}
 use Rattle.node_rules.specs.Sending.{all_bytes}
-use Rattle.node_rules.specs.Calls.{Outcome, outcome}
+use Rattle.node_rules.specs.Calls.{Outcome, refusing, accepted, call_tests, outcome}
 use Rattle.node_rules.specs.Histories.{out_after}
 use Rattle.node.specs.declared.Answer.{Answer}
 use Rattle.node.specs.Lent.{board_of}
@@ -32,9 +33,9 @@ result_by out o = result (answer_of o) o.next.slots (out_after out o)
 abbrev pub result_of : Node → Call → List ℕ → Slots → List ℕ → Result
 result_of node call bytes slots out = result_by out (outcome (board_of node slots) call bytes (length out))
 
--- What a call leaves that writes nothing, whichever output is lent.
-abbrev pub LeavesSilently : Answer → Slots → Node → Call → Slots → Type 0
-LeavesSilently answer left node call entered = (out : List ℕ) → result answer left out ≡ result_of node call [] entered out
+-- The same of a board that has passed the tests of every call: those of the call itself are left.
+abbrev pub called : Board → Call → List ℕ → List ℕ → Result
+called b call bytes out = result_by out (answered (λ o. o) (refusing b) (first_of (call_tests b call bytes (length out))) (accepted b call bytes))
 
 -- ---- both for a clause, with the output as the call left it (`out.new`) and as it was lent (`out.old`)
 

@@ -1,186 +1,139 @@
-// The calls on a board that has passed the tests of every call, each with the tests of its own.
-ghost use Rattle.std.specs.Prelude.{◌≡◌, [], ◌*◌, ◌≤◌};
-ghost use Rattle.basics.specs.Refusals.{first_of};
-ghost use Rattle.node_rules.specs.Calls.{board_tests, slot_tests};
+// The calls on a board, each with the tests of its own.
+ghost use Rattle.std.specs.Prelude.{◌≡◌, [], ◌*◌, ◌≤◌, List, ℕ};
+ghost use Rattle.basics.specs.Refusals.{first_of, refusal_in};
+ghost use Rattle.node_rules.specs.Calls.{slot_tests};
 ghost use Rattle.node_rules.specs.declared.Call.TheVariants.{Initialise, Announce, Produce, SetStatus, Receive};
-ghost use Rattle.node.specs.Lent.{slots_of, board_of};
-ghost use Rattle.node.specs.Answers.{answer as answer_by, leaves, performed, LeavesSilently};
+ghost use Rattle.node.specs.Boards.{slots_in, board_in, answer_with, answer_in, SameLists};
+ghost use Rattle.node.specs.Answers.{answer as answer_by, leaves, called};
 
-use crate::{Answer, hearing, replies, slots, writing};
-use message::Reading;
-use node_rules::Node;
+use crate::board::{ADVERTISED, Board, INITIALIZED, PRODUCER, UNKNOWN};
+use crate::{hearing, writing};
+use basics::Refusal;
+use node_rules::{Call, Node};
 
-pub(crate) fn initialise(
-    node: Node,
-    roles: &[u8],
-    events: &[u64],
-    statuses: &[u8],
-    marks: &mut [u8],
-    out: &mut [u8],
-) -> Answer
-    requires { first_of (board_tests (board_of node (slots_of roles.now events.now statuses.now marks.old))) ≡ 0 }
-    ensures { leaves result (slots_of roles.now events.now statuses.now marks.new) out.new ≡ performed node Initialise [] (slots_of roles.now events.now statuses.now marks.old) out.old }
-{
-    if out.len() < 14 {
-        return refused(node, 6);
-    }
-    let id = node.id;
-    let automatic = node.automatic;
-    slots::restart(automatic, events, marks);
-    writing::complete(id, out);
-    Answer {
-        refusal: 0,
-        messages: 1,
-        bytes: 14,
-        matches: 0,
-        node: Node {
-            id,
-            state: 1,
-            automatic,
-        },
-    }
+// What a call that is not refused did: the messages written and their bytes, the slots that a report matches, and the record after it.
+#[derive(Clone, Copy)]
+pub(crate) struct Done {
+    pub(crate) messages: usize,
+    pub(crate) bytes: usize,
+    pub(crate) matches: u64,
+    pub(crate) node: Node,
 }
 
-pub(crate) fn announce(
-    node: Node,
-    slot: usize,
-    roles: &[u8],
-    events: &[u64],
-    statuses: &[u8],
-    marks: &mut [u8],
-    out: &mut [u8],
-) -> Answer
-    requires { first_of (board_tests (board_of node (slots_of roles.now events.now statuses.now marks.old))) ≡ 0 }
-    ensures { leaves result (slots_of roles.now events.now statuses.now marks.new) out.new ≡ performed node (Announce slot) [] (slots_of roles.now events.now statuses.now marks.old) out.old }
-{
-    let refusal = slot_refusal(node, slot, roles, events, statuses, marks);
-    if refusal != 0 {
-        return refused(node, refusal);
+impl Board<'_> {
+    // Any call; only Receive reads the bytes.
+    pub(crate) fn perform(
+        &mut self,
+        call: Call,
+        bytes: &[u8],
+        out: &mut [u8],
+    ) -> Result<Done, Refusal>
+        ensures same { SameLists self.old self.new }
+        ensures left { leaves (answer_in self.old.node result) (slots_in self.new) out.new ≡ called (board_in self.old) call bytes.now out.old }
+    {
+        match call {
+            Call::Initialise => self.initialise(out),
+            Call::Announce(slot) => self.announce(slot, out),
+            Call::Produce(slot) => self.produce(slot, out),
+            Call::SetStatus(slot, status) => self.set_status(slot, status),
+            Call::Receive => self.receive(bytes, out),
+        }
     }
-    let no_room = writing::no_room(1, out.len());
-    if no_room != 0 {
-        return refused(node, no_room);
-    }
-    replies::identify(node, slot, roles, events, statuses, marks, 0, out);
-    wrote(node, 1, 0)
-}
 
-pub(crate) fn produce(
-    node: Node,
-    slot: usize,
-    roles: &[u8],
-    events: &[u64],
-    statuses: &[u8],
-    marks: &[u8],
-    out: &mut [u8],
-) -> Answer
-    requires { first_of (board_tests (board_of node (slots_of roles.now events.now statuses.now marks.now))) ≡ 0 }
-    ensures { leaves result (slots_of roles.now events.now statuses.now marks.now) out.new ≡ performed node (Produce slot) [] (slots_of roles.now events.now statuses.now marks.now) out.old }
-{
-    let refusal = slot_refusal(node, slot, roles, events, statuses, marks);
-    if refusal != 0 {
-        return refused(node, refusal);
+    fn initialise(&mut self, out: &mut [u8]) -> Result<Done, Refusal>
+        ensures same { SameLists self.old self.new }
+        ensures left { leaves (answer_in self.old.node result) (slots_in self.new) out.new ≡ called (board_in self.old) Initialise [] out.old }
+    {
+        let node = self.node;
+        if out.len() < 14 {
+            return Err(Refusal::NoRoom);
+        }
+        self.restart();
+        writing::complete(node.id, out);
+        Ok(Done {
+            messages: 1,
+            bytes: 14,
+            matches: 0,
+            node: Node {
+                state: INITIALIZED,
+                ..node
+            },
+        })
     }
-    if roles[slot] != 0 {
-        return refused(node, 11);
-    }
-    if marks[slot] != 1 {
-        return refused(node, 12);
-    }
-    let no_room = writing::no_room(1, out.len());
-    if no_room != 0 {
-        return refused(node, no_room);
-    }
-    writing::put(0x05B4, node.id, events[slot], 0, out);
-    wrote(node, 1, 0)
-}
 
-// The refusal, 9 or 10 in this order, or 0.
-fn slot_refusal(
-    node: Node,
-    slot: usize,
-    roles: &[u8],
-    events: &[u64],
-    statuses: &[u8],
-    marks: &[u8],
-) -> u8
-    ensures { result ≡ first_of (slot_tests (board_of node (slots_of roles.now events.now statuses.now marks.now)) slot) }
-{
-    if node.state != 1 {
-        return 9;
+    fn announce(&mut self, slot: usize, out: &mut [u8]) -> Result<Done, Refusal>
+        ensures same { SameLists self.old self.new }
+        ensures left { leaves (answer_in self.old.node result) (slots_in self.new) out.new ≡ called (board_in self.old) (Announce slot) [] out.old }
+    {
+        let node = self.node;
+        self.check_slot(slot)?;
+        writing::check_room(1, out.len())?;
+        self.identify(slot, 0, out);
+        Ok(wrote(node, 1, 0))
     }
-    if roles.len() <= slot { 10 } else { 0 }
-}
 
-pub(crate) fn set_status(
-    node: Node,
-    slot: usize,
-    status: u8,
-    roles: &[u8],
-    events: &[u64],
-    statuses: &mut [u8],
-    marks: &[u8],
-) -> Answer
-    requires { first_of (board_tests (board_of node (slots_of roles.now events.now statuses.old marks.now))) ≡ 0 }
-    ensures { LeavesSilently result (slots_of roles.now events.now statuses.new marks.now) node (SetStatus slot status) (slots_of roles.now events.now statuses.old marks.now) }
-{
-    if roles.len() <= slot {
-        return refused(node, 10);
+    fn produce(&self, slot: usize, out: &mut [u8]) -> Result<Done, Refusal>
+        ensures { leaves (answer_in self.now.node result) (slots_in self.now) out.new ≡ called (board_in self.now) (Produce slot) [] out.old }
+    {
+        let node = self.node;
+        self.check_slot(slot)?;
+        if self.roles[slot] != PRODUCER {
+            return Err(Refusal::NotAProducer);
+        }
+        if self.marks[slot] != ADVERTISED {
+            return Err(Refusal::NotAdvertised);
+        }
+        writing::check_room(1, out.len())?;
+        writing::put(0x05B4, node.id, self.events[slot], 0, out);
+        Ok(wrote(node, 1, 0))
     }
-    if 2 < status {
-        return refused(node, 10);
-    }
-    statuses[slot] = status;
-    wrote(node, 0, 0)
-}
 
-pub(crate) fn receive(
-    node: Node,
-    bytes: &[u8],
-    roles: &[u8],
-    events: &[u64],
-    statuses: &[u8],
-    marks: &mut [u8],
-    out: &mut [u8],
-) -> Answer
-    requires { first_of (board_tests (board_of node (slots_of roles.now events.now statuses.now marks.old))) ≡ 0 }
-    ensures { leaves result (slots_of roles.now events.now statuses.now marks.new) out.new ≡ performed node Receive bytes.now (slots_of roles.now events.now statuses.now marks.old) out.old }
-{
-    let reading = message::read(bytes);
-    let Reading::Read(m) = reading else {
-        return refused(node, message::refused_with(reading));
-    };
-    let automatic = node.automatic;
-    let heard = hearing::heard_by(node, m);
-    let count = replies::count_answers(heard, automatic, roles, events);
-    let no_room = writing::no_room(count, out.len());
-    if no_room != 0 {
-        return refused(node, no_room);
+    // Refusal 9 or 10, in this order.
+    fn check_slot(&self, slot: usize) -> Result<(), Refusal>
+        ensures { refusal_in result ≡ first_of (slot_tests (board_in self.now) slot) }
+    {
+        if self.node.state != INITIALIZED {
+            return Err(Refusal::NotInitialized);
+        }
+        if self.roles.len() <= slot {
+            return Err(Refusal::NoSuchSlot);
+        }
+        Ok(())
     }
-    let matches = hearing::matches(heard, roles, events);
-    replies::answer(node, heard, roles, events, statuses, marks, out);
-    wrote(node, count, matches)
-}
 
-pub(crate) fn refused(node: Node, number: u8) -> Answer
-    ensures { result ≡ answer_by number 0 0 0 node }
-{
-    Answer {
-        refusal: number,
-        messages: 0,
-        bytes: 0,
-        matches: 0,
-        node,
+    fn set_status(&mut self, slot: usize, status: u8) -> Result<Done, Refusal>
+        ensures same { SameLists self.old self.new }
+        ensures left { (out : List ℕ) → leaves (answer_in self.old.node result) (slots_in self.new) out ≡ called (board_in self.old) (SetStatus slot status) [] out }
+    {
+        let node = self.node;
+        if self.roles.len() <= slot || UNKNOWN < status {
+            return Err(Refusal::NoSuchSlot);
+        }
+        self.statuses[slot] = status;
+        Ok(wrote(node, 0, 0))
+    }
+
+    fn receive(&mut self, bytes: &[u8], out: &mut [u8]) -> Result<Done, Refusal>
+        ensures same { SameLists self.old self.new }
+        ensures left { leaves (answer_in self.old.node result) (slots_in self.new) out.new ≡ called (board_in self.old) Receive bytes.now out.old }
+    {
+        let node = self.node;
+        let message = message::read(bytes)?;
+        let heard = hearing::heard_by(node, message);
+        let count = self.count_answers(heard);
+        writing::check_room(count, out.len())?;
+        let matches = self.matches(heard);
+        self.answer(heard, out);
+        Ok(wrote(node, count, matches))
     }
 }
 
 // So many messages with an event, of 16 bytes each.
-fn wrote(node: Node, messages: usize, matches: u64) -> Answer
+fn wrote(node: Node, messages: usize, matches: u64) -> Done
     requires { messages ≤ 64 }
-    ensures { result ≡ answer_by 0 messages (messages * 16) matches node }
+    ensures { answer_with result ≡ answer_by 0 messages (messages * 16) matches node }
 {
-    Answer {
-        refusal: 0,
+    Done {
         messages,
         bytes: messages * 16,
         matches,

@@ -1,19 +1,18 @@
 // What a message says to this node, which slots it asks for and which it matches.
-ghost use Rattle.std.specs.Prelude.{◌≡◌, true, ◌≤◌, ◌<◌, length};
-ghost use Rattle.range.specs.Range.{is_block};
+ghost use Rattle.std.specs.Prelude.{◌≡◌, ◌<◌, length};
 ghost use Rattle.basics.specs.Sets.{set_of};
 ghost use Rattle.node_rules.specs.Hearing.{is_for, heard_by, asks_at, matches_at};
 
-use crate::slots;
-use message::{Field, Message, Saying};
+use crate::board::{Board, CONSUMER, INITIALIZED};
+use message::{Message, Saying};
 use node_rules::Node;
-use range::Block;
 
 // Nothing while the node is not Initialized, nor by an inquiry for another node.
+#[tactic(auto, unfolding(node_rules::specs::Hearing::heard_by))]
 pub(crate) fn heard_by(node: Node, m: Message) -> Saying
     ensures { result ≡ heard_by node m }
 {
-    if node.state != 1 {
+    if node.state != INITIALIZED {
         return Saying::Nothing;
     }
     let said = message::said_by(m);
@@ -28,35 +27,32 @@ pub(crate) fn heard_by(node: Node, m: Message) -> Saying
 }
 
 // Identify Events, global or addressed to this node.
-fn is_for(id: u64, destination: Field) -> bool
+fn is_for(id: u64, destination: Option<u64>) -> bool
     ensures { result ≡ is_for id destination }
 {
-    match destination {
-        Field::Present(d) => d == id,
-        Field::Absent => true,
-    }
+    destination.is_none_or(|d| d == id)
 }
 
-// Whether slot i is asked for.
-pub(crate) fn asks(heard: Saying, automatic: Block, roles: &[u8], events: &[u64], i: usize) -> bool
-    requires automatic_value { is_block automatic ≡ true }
-    requires i_in_bounds { (i < length roles.now) × (i < length events.now) }
-    ensures { result ≡ asks_at automatic roles.now events.now heard i }
-{
-    match heard {
-        Saying::Inquiry(role, e) => slots::has(roles, events, role, e, i),
-        Saying::InquiryForAll(_) => !slots::in_block(automatic, events[i]),
-        _ => false,
+impl Board<'_> {
+    // Whether slot i is asked for.
+    pub(crate) fn asks(&self, heard: Saying, i: usize) -> bool
+        requires { i < length self.now.roles.now }
+        ensures { result ≡ asks_at self.now.node.automatic self.now.roles.now self.now.events.now heard i }
+    {
+        match heard {
+            Saying::Inquiry(role, e) => self.has(role, e, i),
+            Saying::InquiryForAll(_) => !self.is_automatic(i),
+            _ => false,
+        }
     }
-}
 
-// The set of the slots that a message matches: the consumer slots with the event of a report.
-pub(crate) fn matches(heard: Saying, roles: &[u8], events: &[u64]) -> u64
-    requires { (length events.now ≡ length roles.now) × (length roles.now ≤ 64) }
-    ensures { result ≡ set_of 64 (matches_at roles.now events.now heard) }
-{
-    match heard {
-        Saying::Report(e) => slots::having(roles, events, 1, e),
-        _ => 0,
+    // The set of the slots that a message matches: the consumer slots with the event of a report.
+    pub(crate) fn matches(&self, heard: Saying) -> u64
+        ensures { result ≡ set_of 64 (matches_at self.now.roles.now self.now.events.now heard) }
+    {
+        match heard {
+            Saying::Report(e) => self.having(CONSUMER, e),
+            _ => 0,
+        }
     }
 }

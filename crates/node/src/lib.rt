@@ -1,6 +1,7 @@
 // The board: its record by value and its slots as lent lists, one call for each thing that it does.
 #![tactic(auto)]
 
+mod board;
 mod bounds;
 mod calls;
 mod hearing;
@@ -11,11 +12,15 @@ mod writing;
 ghost use Rattle.std.specs.Prelude.{◌≡◌, []};
 ghost use Rattle.node_rules.specs.declared.Call.TheVariants.{Initialise, Announce, Produce, SetStatus, Receive};
 ghost use Rattle.node.specs.Lent.{slots_of};
+ghost use Rattle.node.specs.Boards.{answer_in};
 ghost use Rattle.node.specs.Answers.{leaves, performed};
 
+use crate::board::Board;
+use crate::calls::Done;
+use basics::Refusal;
 use node_rules::{Call, Node};
 
-// The refusal or 0, the messages written and their bytes, the slots that a report matches, bit i for slot i, and the record.
+// The refusal or 0, the messages written and their bytes, the slots that a report matches, bit i for slot i, and the record: the struct that C gets.
 #[repr(C)]
 #[derive(Clone, Copy)]
 pub struct Answer {
@@ -39,18 +44,39 @@ pub fn perform(
 ) -> Answer
     ensures { leaves result (slots_of roles.now events.now statuses.new marks.new) out.new ≡ performed node call bytes.now (slots_of roles.now events.now statuses.old marks.old) out.old }
 {
-    let refusal = bounds::refusal_of(node, roles, events, statuses, marks);
-    if refusal != 0 {
-        return calls::refused(node, refusal);
+    if let Err(refusal) = bounds::check(node, roles, events, statuses, marks) {
+        return in_numbers(node, Err(refusal));
     }
-    match call {
-        Call::Initialise => calls::initialise(node, roles, events, statuses, marks, out),
-        Call::Announce(slot) => calls::announce(node, slot, roles, events, statuses, marks, out),
-        Call::Produce(slot) => calls::produce(node, slot, roles, events, statuses, marks, out),
-        Call::SetStatus(slot, status) => calls::set_status(
-            node, slot, status, roles, events, statuses, marks,
-        ),
-        Call::Receive => calls::receive(node, bytes, roles, events, statuses, marks, out),
+    let mut board = Board {
+        node,
+        roles,
+        events,
+        statuses,
+        marks,
+    };
+    let done = board.perform(call, bytes, out);
+    in_numbers(node, done)
+}
+
+// C's answer: a refusal writes nothing, matches nothing and keeps the record.
+fn in_numbers(node: Node, done: Result<Done, Refusal>) -> Answer
+    ensures { result ≡ answer_in node done }
+{
+    match done {
+        Ok(done) => Answer {
+            refusal: 0,
+            messages: done.messages,
+            bytes: done.bytes,
+            matches: done.matches,
+            node: done.node,
+        },
+        Err(refusal) => Answer {
+            refusal: refusal.into(),
+            messages: 0,
+            bytes: 0,
+            matches: 0,
+            node,
+        },
     }
 }
 

@@ -1,104 +1,94 @@
-// The slots: which have a role and Event ID, and their marks.
-ghost use Rattle.std.specs.Prelude.{◌≡◌, true, cond, ◌+◌, ◌^◌, ◌≤◌, ◌<◌, length};
+// The slots of a board: which have a role and Event ID, and their marks.
+ghost use Rattle.std.specs.Prelude.{◌≡◌, true, cond, ◌+◌, ◌^◌, ◌<◌, length, get_or};
 ghost use Rattle.range.specs.Range.{is_block, in_block};
 ghost use Rattle.basics.specs.Sets.{set_of};
-ghost use Rattle.node_rules.specs.Boards.{advertised, has_at, advertised_marks, restarted_marks};
+ghost use Rattle.node_rules.specs.Boards.{advertise, has_at};
 ghost use Rattle.node_rules.specs.Hearing.{lowest_at};
+ghost use Rattle.node_rules.specs.Calls.{restarted};
+ghost use Rattle.node.specs.Boards.{slots_in, board_in, SameLists};
 
-use range::{Answer, Block};
+use crate::board::{ADVERTISED, Board, UNADVERTISED};
+use range::Block;
 
-// Slots in the automatic block become Advertised, all others Unadvertised.
-pub(crate) fn restart(automatic: Block, events: &[u64], marks: &mut [u8])
-    requires { (is_block automatic ≡ true) × (length events.now ≡ length marks.old) }
-    ensures { marks.new ≡ restarted_marks automatic events.now marks.old }
-{
-    let mut i = 0;
-    while i < marks.len() {
-        let mark = in_block(automatic, events[i]) as u8;
-        marks[i] = mark;
-        i += 1;
+impl Board<'_> {
+    // Slots in the automatic block become Advertised, all others Unadvertised.
+    pub(crate) fn restart(&mut self)
+        ensures same { SameLists self.old self.new }
+        ensures slots { slots_in self.new ≡ (restarted (board_in self.old)).slots }
+    {
+        let automatic = self.node.automatic;
+        let events = self.events;
+        for (i, mark) in self.marks.iter_mut().enumerate() {
+            *mark = if in_block(automatic, events[i]) {
+                ADVERTISED
+            } else {
+                UNADVERTISED
+            };
+        }
+    }
+
+    // Every slot of the role and Event ID of a slot becomes Advertised.
+    pub(crate) fn advertise(&mut self, slot: usize)
+        requires { slot < length self.old.roles.now }
+        ensures same { SameLists self.old self.new }
+        ensures slots { slots_in self.new ≡ advertise (slots_in self.old) slot }
+    {
+        let roles = self.roles;
+        let events = self.events;
+        for (i, mark) in self.marks.iter_mut().enumerate() {
+            if roles[i] == roles[slot] && events[i] == events[slot] {
+                *mark = ADVERTISED;
+            }
+        }
+    }
+
+    // Whether slot i has a role and Event ID.
+    pub(crate) fn has(&self, role: u8, event: u64, i: usize) -> bool
+        requires { i < length self.now.roles.now }
+        ensures { result ≡ has_at self.now.roles.now self.now.events.now role event i }
+    {
+        self.roles[i] == role && self.events[i] == event
+    }
+
+    // Whether slot i is in the automatic block.
+    pub(crate) fn is_automatic(&self, i: usize) -> bool
+        requires { i < length self.now.roles.now }
+        ensures { result ≡ in_block self.now.node.automatic (get_or self.now.events.now i 0) }
+    {
+        in_block(self.node.automatic, self.events[i])
+    }
+
+    // Whether no slot below i has its role and Event ID. A loop, since that `any` over a range is `any_below` is not proved.
+    pub(crate) fn is_lowest(&self, i: usize) -> bool
+        requires { i < length self.now.roles.now }
+        ensures { result ≡ lowest_at self.now.roles.now self.now.events.now i }
+    {
+        for j in 0..i {
+            if self.has(self.roles[i], self.events[i], j) {
+                return false;
+            }
+        }
+        true
+    }
+
+    // The set of the slots that have a role and Event ID.
+    #[tactic(auto, unfolding(basics::specs::Sets::set_of))]
+    pub(crate) fn having(&self, role: u8, event: u64) -> u64
+        ensures { result ≡ set_of (length self.now.roles.now) (has_at self.now.roles.now self.now.events.now role event) }
+    {
+        let mut set = 0;
+        for i in 0..self.roles.len() {
+            if self.has(role, event, i) {
+                set += 1 << i;
+            }
+        }
+        set
     }
 }
 
-pub(crate) fn in_block(block: Block, e: u64) -> bool
+fn in_block(block: Block, e: u64) -> bool
     requires { is_block block ≡ true }
     ensures { result ≡ in_block block e }
 {
-    match range::holds(block, e) {
-        Answer::Yes => true,
-        Answer::No => false,
-        Answer::NoBlock => false,
-    }
-}
-
-// Every slot of the role and Event ID of a slot becomes Advertised.
-pub(crate) fn advertise(roles: &[u8], events: &[u64], slot: usize, marks: &mut [u8])
-    requires { (slot < length marks.old) × (length roles.now ≡ length marks.old) × (length events.now ≡ length marks.old) }
-    ensures { marks.new ≡ advertised_marks roles.now events.now slot marks.old }
-{
-    let role = roles[slot];
-    let event = events[slot];
-    let mut i = 0;
-    while i < marks.len() {
-        let like = has(roles, events, role, event, i);
-        let mark = marked(like, marks[i]);
-        marks[i] = mark;
-        i += 1;
-    }
-}
-
-fn marked(yes: bool, mark: u8) -> u8
-    ensures { result ≡ cond yes advertised mark }
-{
-    if yes { 1 } else { mark }
-}
-
-// Whether slot i has a role and Event ID.
-pub(crate) fn has(roles: &[u8], events: &[u64], role: u8, event: u64, i: usize) -> bool
-    requires { (i < length roles.now) × (i < length events.now) }
-    ensures { result ≡ has_at roles.now events.now role event i }
-{
-    if roles[i] != role {
-        return false;
-    }
-    events[i] == event
-}
-
-// Whether no slot below i has its role and Event ID.
-pub(crate) fn lowest(roles: &[u8], events: &[u64], i: usize) -> bool
-    requires { (i < length roles.now) × (i < length events.now) }
-    ensures { result ≡ lowest_at roles.now events.now i }
-{
-    let role = roles[i];
-    let event = events[i];
-    let mut j = 0;
-    while j < i {
-        let here = has(roles, events, role, event, j);
-        j += 1;
-        if here {
-            return false;
-        }
-    }
-    true
-}
-
-// The set of the slots that have a role and Event ID.
-pub(crate) fn having(roles: &[u8], events: &[u64], role: u8, event: u64) -> u64
-    requires { (length events.now ≡ length roles.now) × (length roles.now ≤ 64) }
-    ensures { result ≡ set_of (length roles.now) (has_at roles.now events.now role event) }
-{
-    let mut set: u64 = 0;
-    let mut i = 0;
-    while i < roles.len() {
-        set = put(set, i, has(roles, events, role, event, i));
-        i += 1;
-    }
-    set
-}
-
-fn put(set: u64, i: usize, yes: bool) -> u64
-    requires { (i < 64) × (set < 2 ^ i) }
-    ensures { result ≡ set + cond yes (2 ^ i) 0 }
-{
-    if yes { set + (1 << i) } else { set }
+    range::holds(block, e).unwrap_or(false)
 }

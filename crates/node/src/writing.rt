@@ -1,26 +1,31 @@
-// What a board writes.
+// What a board writes; its tests leave message::write nothing to refuse.
 ghost use Rattle.std.specs.Prelude.{◌≡◌, false, ◌+◌, ◌*◌, ◌≤◌, [], length};
 ghost use Rattle.numbers.specs.Numbers.{bytes_of, pasted};
-ghost use Rattle.basics.specs.Refusals.{first_of};
+ghost use Rattle.basics.specs.Refusals.{first_of, refusal_in};
 ghost use Rattle.message.specs.Messages.{bad_node, message_bytes};
 ghost use Rattle.node_rules.specs.Sending.{Plain, with_event, complete_by, by_status, identified_mti};
 ghost use Rattle.node_rules.specs.Calls.{reply_tests};
 
-use message::{Field, Message};
+use crate::board::{INVALID, PRODUCER, VALID};
+use basics::Refusal;
+use message::Message;
 
 // Every message with an event has 16 bytes.
 const SIZE: usize = 16;
 
-// The refusal for so many messages with an event, 13 or 6 in this order, or 0.
-pub(crate) fn no_room(messages: usize, room: usize) -> u8
+// Whether so many messages with an event fit: refusal 13 or 6, in this order.
+pub(crate) fn check_room(messages: usize, room: usize) -> Result<(), Refusal>
     requires { messages ≤ 64 }
-    ensures { result ≡ first_of (reply_tests (messages * 16) room) }
+    ensures { refusal_in result ≡ first_of (reply_tests (messages * 16) room) }
 {
     let bytes = messages * SIZE;
     if 1024 < bytes {
-        return 13;
+        return Err(Refusal::TooManyReplies);
     }
-    if room < bytes { 6 } else { 0 }
+    if room < bytes {
+        return Err(Refusal::NoRoom);
+    }
+    Ok(())
 }
 
 // Writes a message with an event at a place of the output.
@@ -33,10 +38,10 @@ pub(crate) fn put(mti: u16, id: u64, event: u64, at: usize, out: &mut [u8])
     let m = Message {
         mti,
         source: id,
-        destination: Field::Absent,
-        event: Field::Present(event),
+        destination: None,
+        event: Some(event),
     };
-    message::write(m, b"", &mut out[at..at + SIZE]);
+    let _ = message::write(m, b"", &mut out[at..at + SIZE]);
 }
 
 // Writes Initialization Complete at the start of the output.
@@ -50,16 +55,17 @@ pub(crate) fn complete(id: u64, out: &mut [u8])
     let m = Message {
         mti: 0x0100,
         source: id,
-        destination: Field::Absent,
-        event: Field::Absent,
+        destination: None,
+        event: None,
     };
-    message::write(m, &content, out);
+    let _ = message::write(m, &content, out);
 }
 
+#[tactic(auto, unfolding(node_rules::specs::Sending::identified_mti))]
 pub(crate) fn identified_mti(role: u8, status: u8) -> u16
     ensures { result ≡ identified_mti role status }
 {
-    if role == 0 {
+    if role == PRODUCER {
         by_status(status, 0x0544, 0x0545, 0x0547)
     } else {
         by_status(status, 0x04C4, 0x04C5, 0x04C7)
@@ -69,8 +75,9 @@ pub(crate) fn identified_mti(role: u8, status: u8) -> u16
 fn by_status(status: u8, valid: u16, invalid: u16, unknown: u16) -> u16
     ensures { result ≡ by_status status valid invalid unknown }
 {
-    if status == 0 {
-        return valid;
+    match status {
+        VALID => valid,
+        INVALID => invalid,
+        _ => unknown,
     }
-    if status == 1 { invalid } else { unknown }
 }

@@ -2,61 +2,46 @@
 #![tactic(auto)]
 
 mod boards;
-mod calls;
 mod commands;
-mod reading;
 mod report;
 
-use boards::Benches;
+use boards::{Bench, Benches};
+use case_files::Kind;
+use commands::Command;
 use std::io;
 
-const NEW_LINE: u8 = 10;
-
 fn main(rt: HostRuntime) -> io::Result<()> {
-    let mut file = [0u8; 65536];
+    let mut file = [0; 65536];
     let length = streams::read_full(&mut rt.stdin(), &mut file);
-    each_line(&rt, &file[0..length])
+    each_line(&rt, &file[..length])
 }
 
+// A last line that no new line ends is not run. gateway_cases walks its file alike: one function for both would be public, and no contract says what it prints on the way.
 fn each_line(rt: &impl Print, file: &[u8]) -> io::Result<()> {
-    let bare = boards::bare();
-    let mut b = Benches {
-        now: bare,
-        kept: bare,
+    let mut benches = Benches {
+        now: Bench::bare(),
+        kept: Bench::bare(),
     };
-    let mut line = 0;
-    let mut start = 0;
-    let mut i = 0;
-    while i < file.len() {
-        let at = i;
-        i += 1;
-        if file[at] != NEW_LINE {
-            continue;
+    for (number, line) in (1..).zip(file.split_inclusive(|b| *b == b'\n')) {
+        if let Some(line) = line.strip_suffix(b"\n") {
+            step(rt, &mut benches, line, number)?;
         }
-        line += 1;
-        b = step(rt, b, &file[start..at], line)?;
-        start = i;
     }
     Ok(())
 }
 
-// Titles are printed as they are, comments are not.
-fn step(rt: &impl Print, b: Benches, line: &[u8], number: usize) -> io::Result<Benches> {
-    if line.len() == 0 {
-        return Ok(b);
+fn step(rt: &impl Print, benches: &mut Benches, line: &[u8], number: u64) -> io::Result<()> {
+    let kind = Kind::of(line);
+    if kind == Kind::PassedOver {
+        return Ok(());
     }
-    if line[0] == b'#' {
-        return Ok(b);
+    rt.write_all(line)?;
+    println!(rt; "")?;
+    if kind == Kind::Title {
+        return Ok(());
     }
-    report::say(rt, line)?;
-    report::say(rt, b"\n")?;
-    if line[0] == b'=' {
-        return Ok(b);
+    match Command::read(line) {
+        Some(command) => benches.obey(rt, command),
+        None => println!(rt; "  line {number}: cannot be read"),
     }
-    let l = reading::read_line(line, 7);
-    if !reading::is_read(l) {
-        report::not_read(rt, number)?;
-        return Ok(b);
-    }
-    commands::obey(rt, b, l, number)
 }

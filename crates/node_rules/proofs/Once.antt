@@ -11,7 +11,7 @@ use Rattle.basics.proofs.Bools.{both}
 use Rattle.basics.specs.Sets.{any_below}
 use Rattle.message.specs.declared.Message.{Message}
 use Rattle.message.specs.Mti.{same_kind, kind_of}
-use Rattle.message.specs.declared.Field.{Field}
+use Rattle.std.specs.Prelude.{Option}
 use Rattle.message.specs.declared.Saying.{Saying}
 use Rattle.message.specs.declared.Saying.TheVariants.{Inquiry, InquiryForAll}
 use Rattle.node_rules.specs.Boards.{Board, count, role_of, event_of, status_of, has_at, out_of_bounds}
@@ -102,7 +102,7 @@ module _ (b : Board) (bounded : out_of_bounds b ≡ false) (role e : ℕ) (small
       ∙ chosen_once b.slots.roles b.slots.events asked role e (count b.slots)
 
   -- Identify Events: one reply for each different role and Event ID outside the automatic block, and no other.
-  pub each_once : (m : Message) (destination : Field) → heard_by b.node m ≡ InquiryForAll destination
+  pub each_once : (m : Message) (destination : Option ℕ) → heard_by b.node m ≡ InquiryForAll destination
       → how_many (names role e) (taking b (heard_by b.node m)).sent ≡ cond (some_slot b role e && outside b e) 1 0
   unfolding answering
   each_once m destination h = heard_once (λ _ v. outside b v) m (InquiryForAll destination) h refl

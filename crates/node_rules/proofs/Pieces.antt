@@ -9,16 +9,16 @@ use borrow.Author.Tests.{ne_eqb, eqb-true, ltb-true, leb-false, not-true}
 use lib.Dec.{eqb, leb, ltb}
 use lib.ListN.{length, take, drop, length-append}
 use lib.Seq.{take_at, drop_at, take-append-le}
+use Rattle.std.specs.Prelude.{Ok}
 use Rattle.numbers.specs.Numbers.{number_in, bytes_of}
 use Rattle.numbers.proofs.Laws.{bytes_length, number_of_bytes}
 use Rattle.basics.proofs.Bools.{both, neither}
 use Rattle.message.specs.declared.Kind.TheVariants.{EventReport, ConsumerIdentified, ProducerIdentified}
 use Rattle.message.specs.declared.Message.{Message}
-use Rattle.message.specs.declared.Reading.TheVariants.{Read}
 use Rattle.message.specs.Mti.{addressed, carries_event, barred, content_at, same_kind, kind_of, is_restart, meaning_of}
 use Rattle.message.specs.Messages.{bad_node, Below, message_bytes, content_tests}
-use Rattle.basics.specs.Refusals.{first_of, Told, told}
-use Rattle.message.specs.Reading.{fields_in, mti_in, message_in, reading_told, read_told, read_of}
+use Rattle.basics.specs.Refusals.{first_of, Told, told, told_of}
+use Rattle.message.specs.Reading.{fields_in, mti_in, message_in, read_told, read_of}
 use Rattle.message.specs.Writing.{out_after}
 use Rattle.message.proofs.Exactly.{read_accepted, accepted_leaves}
 use Rattle.message.proofs.Laws.{Placed, nodes_good, content_good, source_any, source_same}
@@ -91,10 +91,10 @@ readable m small below free good ends long =
     let written = sym done.0 in
     let bytes : take (length s) (out_after m (content_of m) s) ≡ s
     = ap (take (length s)) (accepted_leaves m (content_of m) s (length s) written) ∙ take_at s (drop (length s) s) (length s) refl in
-    let back : read_of s ≡ Read m = ap read_of (sym bytes) ∙ (write_then_read m (content_of m) s (length s) small below written).0 in
+    let back : read_of s ≡ Ok m = ap read_of (sym bytes) ∙ (write_then_read m (content_of m) s (length s) small below written).0 in
     let mti : m.mti ≡ mti_in s = ap (λ (x : Message). x.mti) ((read_accepted s m).0 back).1 ∙ mti_of_lem s in
     record {
-      back = sym (read_told_lem s) ∙ ap reading_told back;
+      back = sym (read_told_lem s) ∙ ap told_of back;
       ends = ap (λ (k : ℕ). content_at k + (meaning_of k).least) (sym mti) ∙ ends;
       long = long;
     }

@@ -1,10 +1,8 @@
 -- What a message says to a board, which slots answer and which it matches (document 01, "Node": "Receive"; 001 sections 5 and 6).
-use Rattle.std.specs.Prelude.{ℕ, zero, suc, Bool, true, false, cond, not, ◌&&◌, List, [], ◌∷◌, ◌++◌, eqb, ltb, length, get_or}
+use Rattle.std.specs.Prelude.{ℕ, zero, suc, Bool, true, false, cond, not, ◌&&◌, List, [], ◌∷◌, ◌++◌, eqb, ltb, length, get_or, Option, Some, None}
 use Rattle.range.specs.declared.Block.{Block}
 use Rattle.range.specs.Range.{in_block}
 use Rattle.basics.specs.Sets.{any_below}
-use Rattle.message.specs.declared.Field.{Field}
-use Rattle.message.specs.declared.Field.TheVariants.{Present, Absent}
 use Rattle.message.specs.declared.Message.{Message}
 use Rattle.message.specs.declared.Saying.{Saying}
 use Rattle.message.specs.declared.Saying.TheVariants.{Report, Announcement, Restart, Inquiry, InquiryForAll, Learn, Nothing}
@@ -15,9 +13,9 @@ use Rattle.node_rules.specs.Boards.{Board, initialized, count, has_at}
 -- ---- what is said to this node
 
 -- Identify Events, global or to this node.
-abbrev pub is_for : ℕ → Field → Bool
-is_for id (Present destination) = eqb destination id
-is_for id Absent = true
+abbrev pub is_for : ℕ → Option ℕ → Bool
+is_for id (Some destination) = eqb destination id
+is_for id None = true
 
 abbrev pub heard_as : ℕ → Saying → Saying
 heard_as id (Report e) = Report e

@@ -1,11 +1,9 @@
 -- Sequences of calls, and what they gave (document 01, "Node": "Demand 2's rule on reports").
-use Rattle.std.specs.Prelude.{ℕ, zero, suc, ◌+◌, ◌^◌, ◌<◌, ◌≡◌, Bool, true, false, cond, ◌&&◌, List, [], ◌∷◌, ◌++◌, eqb, length, take, drop}
+use Rattle.std.specs.Prelude.{ℕ, zero, suc, ◌+◌, ◌^◌, ◌<◌, ◌≡◌, Bool, true, false, cond, ◌&&◌, List, [], ◌∷◌, ◌++◌, eqb, length, take, drop, Option, Some, None}
 use Rattle.basics.specs.Since.{Since}
 use Rattle.basics.specs.Lists.{any}
 use Rattle.message.specs.declared.Kind.{Kind}
 use Rattle.message.specs.declared.Kind.TheVariants.{ProducerIdentified}
-use Rattle.message.specs.declared.Field.{Field}
-use Rattle.message.specs.declared.Field.TheVariants.{Present, Absent}
 use Rattle.message.specs.declared.Message.{Message}
 use Rattle.message.specs.Mti.{same_kind, kind_of, meaning_of, content_at}
 use Rattle.message.specs.Reading.{mti_in, read_told}
@@ -66,9 +64,9 @@ messages_up_to (suc n) s = cond (eqb (length s) 0) [] ((read_told (take (first_e
 abbrev pub messages_in : List ℕ → List Message
 messages_in s = messages_up_to (length s) s
 
-abbrev pub is_of : ℕ → Field → Bool
-is_of e (Present x) = eqb x e
-is_of e Absent = false
+abbrev pub is_of : ℕ → Option ℕ → Bool
+is_of e (Some x) = eqb x e
+is_of e None = false
 
 -- A message of a kind for an event was written.
 abbrev pub wrote : Kind → ℕ → Done → Bool

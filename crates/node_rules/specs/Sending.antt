@@ -1,7 +1,6 @@
 -- What a board writes (document 01, "Node"; 001 sections 5 and 6).
-use Rattle.std.specs.Prelude.{ℕ, ◌^◌, ◌<◌, ◌≡◌, true, false, cond, List, [], ◌∷◌, ◌++◌, eqb}
+use Rattle.std.specs.Prelude.{ℕ, ◌^◌, ◌<◌, ◌≡◌, true, false, cond, List, [], ◌∷◌, ◌++◌, eqb, Some, None}
 use Rattle.numbers.specs.Numbers.{bytes_of}
-use Rattle.message.specs.declared.Field.TheVariants.{Present, Absent}
 use Rattle.message.specs.declared.Message.{Message}
 use Rattle.message.specs.Mti.{addressed, carries_event, barred, is_restart, meaning_of, kind_of}
 use Rattle.message.specs.Messages.{message_bytes}
@@ -12,10 +11,10 @@ use Rattle.message.specs.Saying.{producer}
 
 -- Initialization Complete.
 abbrev pub complete_by : ℕ → Message
-complete_by id = record { mti = 0x0100; source = id; destination = Absent; event = Absent }
+complete_by id = record { mti = 0x0100; source = id; destination = None; event = None }
 
 abbrev pub with_event : ℕ → ℕ → ℕ → Message
-with_event mti id event = record { mti = mti; source = id; destination = Absent; event = Present event }
+with_event mti id event = record { mti = mti; source = id; destination = None; event = Some event }
 
 -- The event report that a slot produces.
 abbrev pub report : Board → ℕ → Message

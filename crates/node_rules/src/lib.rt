@@ -3,7 +3,7 @@
 
 use range::Block;
 
-// State 0 is not Initialized, 1 Initialized.
+// State 0 is not Initialized, 1 Initialized: a number, as C passes the record.
 #[repr(C)]
 #[derive(Clone, Copy)]
 pub struct Node {

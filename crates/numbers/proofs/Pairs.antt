@@ -1,6 +1,6 @@
 -- Numbers of two, six and eight bytes, put together of pairs of bytes.
-use Prim.Native.Nat.{ℕ, ◌+◌, ◌*◌, ◌/◌, ◌%◌, ◌≤◌, ◌<◌}
-use mathlib.Core.Path.{◌≡◌, refl, sym, ap, ap₂, ◌∙◌}
+use Prim.Native.Nat.{ℕ, suc, ◌-◌, ◌+◌, ◌*◌, ◌/◌, ◌%◌, ◌≤◌, ◌<◌}
+use mathlib.Core.Path.{◌≡◌, sym, ap, ap₂, ◌∙◌}
 use mathlib.Core.List.{List, [], ◌∷◌, ◌++◌, append_assoc}
 use native.Mathlib.Nat.{add-zero, add_assoc, div-div-eq-div-mul}
 use native.Mathlib.Numerals.{add-one}
@@ -8,7 +8,7 @@ use native.Mathlib.Omega.{arith}
 use lib.ListN.{length, get_or, take, drop, set, length-append, length-drop, length-set, take-append-drop}
 use lib.Seq.{length-take-le, take-append-le, take-take, drop_at, get_or-drop, set_split}
 use Rattle.numbers.specs.Numbers.{spelled, number_at, bytes_of, pasted}
-use Rattle.numbers.proofs.Laws.{spelled_front}
+use Rattle.numbers.proofs.Laws.{spelled_front, bytes_length}
 
 -- ---- reading
 
@@ -86,25 +86,26 @@ put_two n at out h =
 two_off : (n : ℕ) → n / 0x10000 ≡ n / 256 / 256
 two_off n = sym (div-div-eq-div-mul n 256 256)
 
-four_off : (n : ℕ) → n / 0x100000000 ≡ n / 256 / 256 / 256 / 256
-four_off n = sym (div-div-eq-div-mul n 0x10000 0x10000) ∙ two_off (n / 0x10000) ∙ ap (λ (k : ℕ). k / 256 / 256) (two_off n)
-
-six_off : (n : ℕ) → n / 0x1000000000000 ≡ n / 256 / 256 / 256 / 256 / 256 / 256
-six_off n = sym (div-div-eq-div-mul n 0x100000000 0x10000) ∙ two_off (n / 0x100000000) ∙ ap (λ (k : ℕ). k / 256 / 256) (four_off n)
-
-pub put_six : (n at : ℕ) (out : List ℕ) → at + 6 ≤ length out
-    → pasted at (bytes_of 2 (n / 0x100000000)) (pasted (at + 2) (bytes_of 2 (n / 0x10000)) (pasted (at + 4) (bytes_of 2 n) out)) ≡ pasted at (bytes_of 6 n) out
+bytes_more : (w x : ℕ) → bytes_of w (x / 0x10000) ++ bytes_of 2 x ≡ bytes_of (w + 2) x
 unfolding bytes_of
-put_six n at out h =
-    let high = bytes_of 2 (n / 0x100000000) in
-    let middle = bytes_of 2 (n / 0x10000) in
-    ap (pasted at high) (pasted_before (at + 2) (at + 4) middle (bytes_of 2 n) out (sym (add_assoc at 2 2)) (omega arith))
-    ∙ pasted_before at (at + 2) high (middle ++ bytes_of 2 n) out refl (omega arith)
-    ∙ ap₂ (λ (x y : ℕ). pasted at (bytes_of 2 x ++ (bytes_of 2 y ++ bytes_of 2 n)) out) (four_off n) (two_off n)
+bytes_more w x =
+    let after : w + 2 ≡ suc (suc w) = omega arith in
+    ap (λ (k : ℕ). bytes_of w k ++ bytes_of 2 x) (two_off x)
+    ∙ sym (append_assoc (bytes_of w (x / 256 / 256)) (x / 256 % 256 ∷ []) (x % 256 ∷ []))
+    ∙ ap (λ (k : ℕ). bytes_of k x) (sym after)
 
-pub put_eight : (n at : ℕ) (out : List ℕ) → at + 8 ≤ length out
-    → pasted at (bytes_of 2 (n / 0x1000000000000)) (pasted (at + 2) (bytes_of 6 n) out) ≡ pasted at (bytes_of 8 n) out
+-- One more pair is put in, before those that are.
+pub pairs_before : (at i rest : ℕ) (out : List ℕ) {out' : List ℕ} → at + 2 * i ≤ length out → 0 < i → out' ≡ pasted (at + 2 * (i - 1)) (bytes_of 2 rest) out
+    → pasted at (bytes_of (2 * (i - 1)) (rest / 0x10000)) out' ≡ pasted at (bytes_of (2 * i) rest) out
+pairs_before at i rest out h some e =
+    let w = 2 * (i - 1) in
+    let after : w + 2 ≡ 2 * i = omega arith in
+    ap (pasted at (bytes_of w (rest / 0x10000))) e
+    ∙ pasted_before at (at + w) (bytes_of w (rest / 0x10000)) (bytes_of 2 rest) out (omega (arith, bytes_length w (rest / 0x10000))) (omega arith)
+    ∙ ap (λ (l : List ℕ). pasted at l out) (bytes_more w rest ∙ ap (λ (k : ℕ). bytes_of k rest) after)
+
+pub pairs_all : (at i rest : ℕ) (out : List ℕ) → i ≤ 0 → out ≡ pasted at (bytes_of (2 * i) rest) out
 unfolding bytes_of
-put_eight n at out h =
-    pasted_before at (at + 2) (bytes_of 2 (n / 0x1000000000000)) (bytes_of 6 n) out refl (omega arith)
-    ∙ ap (λ (x : ℕ). pasted at (bytes_of 2 x ++ bytes_of 6 n) out) (six_off n)
+pairs_all at i rest out h =
+    let none : 2 * i ≡ 0 = omega arith in
+    sym (ap (λ (k : ℕ). pasted at (bytes_of k rest) out) none ∙ ap (λ (k : ℕ). take at out ++ drop k out) (add-zero at) ∙ take-append-drop at out)

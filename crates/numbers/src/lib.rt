@@ -10,11 +10,9 @@ ghost use Rattle.numbers.specs.Numbers.{number_in, bytes_of, number_at, at_most_
 pub fn read(bytes: &[u8]) -> u64
     ensures { result ≡ number_in bytes.now % 2 ^ 64 }
 {
-    let mut n: u64 = 0;
-    let mut i = 0;
-    while i < bytes.len() {
-        n = n % 0x0100_0000_0000_0000 * 256 + (bytes[i] as u64);
-        i += 1;
+    let mut n = 0;
+    for byte in bytes {
+        n = n % 0x0100_0000_0000_0000 * 256 + u64::from(*byte);
     }
     n
 }
@@ -24,9 +22,7 @@ pub fn write(n: u64, out: &mut [u8])
     ensures { out.new ≡ bytes_of (length out.old) n }
 {
     let mut rest = n;
-    let mut i = out.len();
-    while 0 < i {
-        i -= 1;
+    for i in (0..out.len()).rev() {
         out[i] = (rest % 256) as u8;
         rest /= 256;
     }
@@ -83,15 +79,15 @@ pub fn write_at(n: u64, width: usize, at: usize, out: &mut [u8])
         return;
     }
     if width == 8 {
-        fixed::put_eight(n, at, out);
+        fixed::put_pairs::<4>(n, at, out);
         return;
     }
     if width == 6 {
-        fixed::put_six(n, at, out);
+        fixed::put_pairs::<3>(n, at, out);
         return;
     }
     if width == 2 {
-        fixed::put_two(n, at, out);
+        fixed::put_pairs::<1>(n, at, out);
         return;
     }
     write(n, &mut out[at..at + width]);

@@ -11,14 +11,18 @@ use lib.Pow.{pow_pos, pow-lt}
 use Rattle.basics.proofs.Bools.{both, same_truth}
 use Rattle.range.specs.declared.Block.{Block}
 use Rattle.range.specs.declared.Comparison.{Comparison}
-use Rattle.range.specs.declared.Comparison.TheVariants.{Equal, FirstInside, SecondInside, Apart, NoBlock}
+use Rattle.range.specs.declared.Comparison.TheVariants.{Equal, FirstInside, SecondInside, Apart}
 use Rattle.range.specs.Range.{is_block, in_block, last, inside, Inside}
 use Rattle.range.specs.Comparing.{lying, comparison, comparison_told, Blocks, Lies}
 use Rattle.range.specs.Answer.{Barred}
+use Rattle.std.specs.Prelude.{Result, Ok, Err}
+use Rattle.basics.specs.declared.Refusal.{Refusal}
+use Rattle.basics.specs.declared.Refusal.TheVariants.{NoBlock}
 use Rattle.basics.specs.Refusals.{Told, told, refused}
 use Rattle.range.proofs.Laws.{in_block_between, in_block_above}
 use Rattle.range.proofs.Nested.{inside_or_apart, nested_or_apart}
 use Rattle.range.proofs.Refusals.{either_fails, barred_exactly}
+use Rattle.basics.proofs.Numbers.{refusal_once}
 
 -- ---- one block inside another
 
@@ -101,11 +105,11 @@ inside_by_start a b v w l =
 
 -- ---- the answers
 
-pub compared : (a b : Block) → is_block a ≡ true → is_block b ≡ true → comparison a b ≡ lying (inside a b) (inside b a)
+pub compared : (a b : Block) → is_block a ≡ true → is_block b ≡ true → comparison a b ≡ Ok (lying (inside a b) (inside b a))
 unfolding comparison
 compared a b v w = rw (v, w)
 
-pub not_compared : (a b : Block) → (is_block a && is_block b) ≡ false → comparison a b ≡ NoBlock
+pub not_compared : (a b : Block) → (is_block a && is_block b) ≡ false → comparison a b ≡ Err NoBlock
 unfolding comparison
 not_compared a b f = rw f
 
@@ -123,7 +127,7 @@ inside_not a b f i = true≢false (sym ((inside_exactly a b).1 i) ∙ f)
 lies_so : (a b : Block) → Lies a b (comparison a b)
 lies_so a b = go (is_block a && is_block b) refl
   where
-    by_inside : Blocks a b → (i : Bool) → inside a b ≡ i → (j : Bool) → inside b a ≡ j → Lies a b (lying i j)
+    by_inside : Blocks a b → (i : Bool) → inside a b ≡ i → (j : Bool) → inside b a ≡ j → Lies a b (Ok (lying i j))
     by_inside v true f true g = (v, (inside_exactly a b).0 f, (inside_exactly b a).0 g)
     by_inside v true f false g = (v, (inside_exactly a b).0 f, inside_not b a g)
     by_inside v false f true g = (v, inside_not a b f, (inside_exactly b a).0 g)
@@ -134,38 +138,35 @@ lies_so a b = go (is_block a && is_block b) refl
     go true e =
         let v = both (is_block a) (is_block b) e in
         subst (Lies a b) (sym (compared a b v.0 v.1)) (by_inside v (inside a b) refl (inside b a) refl)
-    go false e = subst (Lies a b) (sym (not_compared a b e)) ((either_fails (is_block a) (is_block b) (barred_exactly a) (barred_exactly b)).0 e)
+    go false e = subst (Lies a b) (sym (not_compared a b e)) (refl, (either_fails (is_block a) (is_block b) (barred_exactly a) (barred_exactly b)).0 e)
 
 -- What is true is answered.
-answered_so : (a b : Block) (c : Comparison) → Lies a b c → comparison a b ≡ c
-answered_so a b Equal (v, i, j) = compared a b v.0 v.1 ∙ ap₂ lying ((inside_exactly a b).1 i) ((inside_exactly b a).1 j)
-answered_so a b FirstInside (v, i, j) = compared a b v.0 v.1 ∙ ap₂ lying ((inside_exactly a b).1 i) (not_inside b a j)
-answered_so a b SecondInside (v, i, j) = compared a b v.0 v.1 ∙ ap₂ lying (not_inside a b i) ((inside_exactly b a).1 j)
-answered_so a b Apart (v, none) =
+answered_so : (a b : Block) (c : Result Comparison Refusal) → Lies a b c → comparison a b ≡ c
+answered_so a b (Ok Equal) (v, i, j) = compared a b v.0 v.1 ∙ ap₂ (λ (i j : Bool). Ok (lying i j)) ((inside_exactly a b).1 i) ((inside_exactly b a).1 j)
+answered_so a b (Ok FirstInside) (v, i, j) = compared a b v.0 v.1 ∙ ap₂ (λ (i j : Bool). Ok (lying i j)) ((inside_exactly a b).1 i) (not_inside b a j)
+answered_so a b (Ok SecondInside) (v, i, j) = compared a b v.0 v.1 ∙ ap₂ (λ (i j : Bool). Ok (lying i j)) (not_inside a b i) ((inside_exactly b a).1 j)
+answered_so a b (Ok Apart) (v, none) =
     compared a b v.0 v.1
-    ∙ ap₂ lying (not_inside a b (λ i. none a.start (first_in_lem a) (i a.start (first_in_lem a)))) (not_inside b a (λ i. none b.start (i b.start (first_in_lem b)) (first_in_lem b)))
-answered_so a b NoBlock either = not_compared a b ((either_fails (is_block a) (is_block b) (barred_exactly a) (barred_exactly b)).1 either)
+    ∙ ap₂ (λ (i j : Bool). Ok (lying i j)) (not_inside a b (λ i. none a.start (first_in_lem a) (i a.start (first_in_lem a)))) (not_inside b a (λ i. none b.start (i b.start (first_in_lem b)) (first_in_lem b)))
+answered_so a b (Err r) (n, either) = not_compared a b ((either_fails (is_block a) (is_block b) (barred_exactly a) (barred_exactly b)).1 either) ∙ ap Err (sym n)
 
--- Each answer is given exactly when it is true of the events, the last exactly when document 01 gives 14.
-pub compared_exactly : (a b : Block) (c : Comparison) → (comparison a b ≡ c) ↔ Lies a b c
+-- Each answer is given exactly when it is true of the events, the refusal exactly when document 01 gives 14.
+pub compared_exactly : (a b : Block) (c : Result Comparison Refusal) → (comparison a b ≡ c) ↔ Lies a b c
 compared_exactly a b c = (λ e. subst (Lies a b) e (lies_so a b), answered_so a b c)
 
 -- So exactly one of the answers is true.
-pub one_lies : (a b : Block) → (c : Comparison) × Lies a b c × ((d : Comparison) → Lies a b d → d ≡ c)
+pub one_lies : (a b : Block) → (c : Result Comparison Refusal) × Lies a b c × ((d : Result Comparison Refusal) → Lies a b d → d ≡ c)
 one_lies a b = (comparison a b, lies_so a b, λ d l. sym (answered_so a b d l))
 
 -- In numbers: 14 exactly when document 01 says, and the four answers from 1 on.
-told_14 : (c : Comparison) → (comparison_told c).refusal ≡ 14 → c ≡ NoBlock
-told_14 Equal e = let z : ⊥ = omega (arith, e) in absurd z
-told_14 FirstInside e = let z : ⊥ = omega (arith, e) in absurd z
-told_14 SecondInside e = let z : ⊥ = omega (arith, e) in absurd z
-told_14 Apart e = let z : ⊥ = omega (arith, e) in absurd z
-told_14 NoBlock e = refl
+told_14 : (c : Result Comparison Refusal) → (comparison_told c).refusal ≡ 14 → c ≡ Err NoBlock
+told_14 (Ok c) e = let z : ⊥ = omega (arith, e) in absurd z
+told_14 (Err r) e = ap Err (refusal_once r NoBlock e)
 
 pub comparison_14 : (a b : Block) → ((comparison_told (comparison a b)).refusal ≡ 14) ↔ (Barred a ⊎ Barred b)
 comparison_14 a b = (
-  λ e. (compared_exactly a b NoBlock).0 (told_14 (comparison a b) e),
-  λ either. ap (λ (c : Comparison). (comparison_told c).refusal) (answered_so a b NoBlock either),
+  λ e. ((compared_exactly a b (Err NoBlock)).0 (told_14 (comparison a b) e)).1,
+  λ either. ap (λ (c : Result Comparison Refusal). (comparison_told c).refusal) (answered_so a b (Err NoBlock) (refl, either)),
 )
 
 abbrev numbered : ℕ → ℕ → ℕ → ℕ → Told ℕ
@@ -176,10 +177,10 @@ unfolding comparison is_block inside
 each_number = (refl, refl, refl, refl, refl, refl)
 
 -- Equal blocks are the same start and size.
-pub equal_same : (a b : Block) → (comparison a b ≡ Equal) ↔ (Blocks a b × (a ≡ b))
+pub equal_same : (a b : Block) → (comparison a b ≡ Ok Equal) ↔ (Blocks a b × (a ≡ b))
 equal_same a b = (
-  λ e. let w = (compared_exactly a b Equal).0 e in (w.0, inside_both a b ((inside_exactly a b).1 w.1) ((inside_exactly b a).1 w.2)),
-  λ w. (compared_exactly a b Equal).1 (
+  λ e. let w = (compared_exactly a b (Ok Equal)).0 e in (w.0, inside_both a b ((inside_exactly a b).1 w.1) ((inside_exactly b a).1 w.2)),
+  λ w. (compared_exactly a b (Ok Equal)).1 (
     w.0,
     subst (Inside a) w.1 (λ _ t. t),
     subst (λ (x : Block). Inside x a) w.1 (λ _ t. t),
@@ -189,18 +190,18 @@ equal_same a b = (
 -- ---- what the code's answers say
 
 -- Whether the first is inside the second, by the answer.
-abbrev pub first_in : Comparison → Bool
-first_in Equal = true
-first_in FirstInside = true
-first_in SecondInside = false
-first_in Apart = false
-first_in NoBlock = false
+abbrev pub first_in : Result Comparison Refusal → Bool
+first_in (Ok Equal) = true
+first_in (Ok FirstInside) = true
+first_in (Ok SecondInside) = false
+first_in (Ok Apart) = false
+first_in (Err r) = false
 
-first_told : (i j : Bool) → first_in (lying i j) ≡ i
+first_told : (i j : Bool) → first_in (Ok (lying i j)) ≡ i
 first_told true true = refl
 first_told true false = refl
 first_told false true = refl
 first_told false false = refl
 
-pub comparison_says : (a b : Block) (r c : Comparison) → is_block a ≡ true → is_block b ≡ true → r ≡ comparison a b → r ≡ c → inside a b ≡ first_in c
+pub comparison_says : (a b : Block) (r c : Result Comparison Refusal) → is_block a ≡ true → is_block b ≡ true → r ≡ comparison a b → r ≡ c → inside a b ≡ first_in c
 comparison_says a b r c v w h k = sym (first_told (inside a b) (inside b a)) ∙ ap first_in (sym (compared a b v w) ∙ sym h ∙ k)

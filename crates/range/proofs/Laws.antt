@@ -13,10 +13,11 @@ use Rattle.basics.proofs.Bools.{both, same_truth}
 use Rattle.range.specs.declared.Block.{Block}
 use Rattle.numbers.specs.Bits.{bit}
 use Rattle.range.specs.Range.{run, is_block, in_block, last, single, block_of, has_number, number_of}
-use Rattle.range.specs.declared.Answer.{Answer}
-use Rattle.range.specs.declared.RangeNumber.{RangeNumber}
-use Rattle.basics.specs.Refusals.{Told, told, refused}
-use Rattle.range.specs.Answer.{yes_or_no, range_number, number_told, holds_told}
+use Rattle.basics.specs.Refusals.{Told, told, refused, in_numbers, refusal_in, told_or}
+use Rattle.std.specs.Prelude.{Result}
+use Rattle.basics.specs.declared.Refusal.{Refusal}
+use Rattle.basics.proofs.Numbers.{refusal_told}
+use Rattle.range.specs.Answer.{number_told, holds_told}
 use Rattle.range.proofs.Runs.{run_of, zeros_divide}
 
 -- ---- what a block is
@@ -151,14 +152,15 @@ number_whole b h k v =
 
 -- ---- what the code's answers say
 
-pub answer_says : (b : Block) (e : ℕ) (r s : Answer) → is_block b ≡ true → yes_or_no r ≡ holds_told b e → r ≡ s → in_block b e ≡ (yes_or_no s).value
-answer_says b e r s g h k = sym (ap (λ (t : Told Bool). t.value) (h ∙ holds_told_lem b e g)) ∙ ap (λ (x : Answer). (yes_or_no x).value) k
+pub answer_says : (b : Block) (e : ℕ) (r s : Result Bool Refusal) → is_block b ≡ true → told_or false (in_numbers r) ≡ holds_told b e → r ≡ s
+    → in_block b e ≡ (told_or false (in_numbers s)).value
+answer_says b e r s g h k = sym (ap (λ (t : Told Bool). t.value) (h ∙ holds_told_lem b e g)) ∙ ap (λ (x : Result Bool Refusal). (told_or false (in_numbers x)).value) k
 
 number_given : (t : Bool) (n : ℕ) → eqb (cond t (told n) (refused 14 0)).refusal 0 ≡ t
 number_given true n = refl
 number_given false n = refl
 
-pub number_says : (b : Block) (r s : RangeNumber) → range_number r ≡ number_told b → r ≡ s → has_number b ≡ eqb (range_number s).refusal 0
+pub number_says : (b : Block) (r s : Result ℕ Refusal) → told_or 0 (in_numbers r) ≡ number_told b → r ≡ s → has_number b ≡ eqb (refusal_in s) 0
 unfolding number_told
 number_says b r s h k =
-    sym (number_given (has_number b) (number_of b)) ∙ ap (λ (t : Told ℕ). eqb t.refusal 0) (sym h) ∙ ap (λ (x : RangeNumber). eqb (range_number x).refusal 0) k
+    sym (number_given (has_number b) (number_of b)) ∙ ap (λ (t : Told ℕ). eqb t.refusal 0) (sym h) ∙ ap (λ (n : ℕ). eqb n 0) (refusal_told 0 r) ∙ ap (λ (x : Result ℕ Refusal). eqb (refusal_in x) 0) k

@@ -1,6 +1,6 @@
--- R4: refusal 14 is given exactly when document 01 says, and what an answer tells decides the answer.
+-- R4: refusal 14 is given exactly when document 01 says.
 use Prim.Native.Nat.{ℕ, ◌%◌, ◌^◌}
-use mathlib.Core.Path.{◌≡◌, refl, sym, ap, ◌∙◌}
+use mathlib.Core.Path.{◌≡◌, refl, ap}
 use mathlib.Core.Logic.Iff
 use mathlib.Core.Logic.{◌↔◌, ◌⊎◌, inl, inr, ⊎_elim}
 use mathlib.Core.Bool.{Bool, true, false, cond, ◌&&◌, not, true≢false}
@@ -9,12 +9,8 @@ use borrow.Author.Tests.{not-false, eqb-true, eqb-false, eq-eqb, ne_eqb, leb-fal
 use lib.Dec.{leb, eqb}
 use Rattle.range.specs.declared.Block.{Block}
 use Rattle.range.specs.Range.{is_block, in_block, has_number, number_of}
-use Rattle.range.specs.declared.Answer.{Answer}
-use Rattle.range.specs.declared.Answer.TheVariants.{Yes, No, NoBlock}
-use Rattle.range.specs.declared.RangeNumber.{RangeNumber}
-use Rattle.range.specs.declared.RangeNumber.TheVariants.{Number, NoNumber}
-use Rattle.basics.specs.Refusals.{Told, told, refused}
-use Rattle.range.specs.Answer.{yes_or_no, range_number, number_told, holds_told, Barred, Unnumbered}
+use Rattle.basics.specs.Refusals.{told, refused}
+use Rattle.range.specs.Answer.{number_told, holds_told, Barred, Unnumbered}
 
 -- A test that is not passed is answered by 14, and nothing else is.
 given_when : {A : Type 0} (t : Bool) (x none : A) → ((cond t (told x) (refused 14 none)).refusal ≡ 14) ↔ (t ≡ false)
@@ -42,25 +38,3 @@ number_14 b =
 pub holds_14 : (b : Block) (e : ℕ) → ((holds_told b e).refusal ≡ 14) ↔ Barred b
 unfolding holds_told
 holds_14 b e = Iff.trans (given_when (is_block b) (in_block b e) false) (barred_exactly b)
-
--- What an answer tells decides it: a promise of what is told allows one answer only.
-unfoldable answer_of : Told Bool → Answer
-answer_of t = cond (eqb t.refusal 0) (cond t.value Yes No) NoBlock
-
-pub yes_or_no_once : (x y : Answer) → yes_or_no x ≡ yes_or_no y → x ≡ y
-yes_or_no_once x y e = sym (back x) ∙ ap answer_of e ∙ back y
-  where
-    back : (x : Answer) → answer_of (yes_or_no x) ≡ x
-    back Yes = unfold answer_of in refl
-    back No = unfold answer_of in refl
-    back NoBlock = unfold answer_of in refl
-
-unfoldable range_number_of : Told ℕ → RangeNumber
-range_number_of t = cond (eqb t.refusal 0) (Number t.value) NoNumber
-
-pub range_number_once : (x y : RangeNumber) → range_number x ≡ range_number y → x ≡ y
-range_number_once x y e = sym (back x) ∙ ap range_number_of e ∙ back y
-  where
-    back : (x : RangeNumber) → range_number_of (range_number x) ≡ x
-    back (Number n) = unfold range_number_of in refl
-    back NoNumber = unfold range_number_of in refl

@@ -1,21 +1,8 @@
 -- What each answer says in document 01's numbers: the refusal's number, 0 where there is none, and the value, 0 or no beside a refusal.
-use Rattle.std.specs.Prelude.{ℕ, ◌%◌, ◌^◌, ◌<◌, ◌≡◌, ◌⊎◌, Bool, true, false, cond}
+use Rattle.std.specs.Prelude.{ℕ, ◌%◌, ◌^◌, ◌<◌, ◌≡◌, ◌⊎◌, Bool, false, cond}
 use Rattle.basics.specs.Refusals.{Told, told, refused}
 use Rattle.range.specs.declared.Block.{Block}
-use Rattle.range.specs.declared.Answer.{Answer}
-use Rattle.range.specs.declared.Answer.TheVariants.{Yes, No, NoBlock}
-use Rattle.range.specs.declared.RangeNumber.{RangeNumber}
-use Rattle.range.specs.declared.RangeNumber.TheVariants.{Number, NoNumber}
 use Rattle.range.specs.Range.{is_block, in_block, has_number, number_of}
-
-abbrev pub yes_or_no : Answer → Told Bool
-yes_or_no Yes = told true
-yes_or_no No = told false
-yes_or_no NoBlock = refused 14 false
-
-abbrev pub range_number : RangeNumber → Told ℕ
-range_number (Number r) = told r
-range_number NoNumber = refused 14 0
 
 -- Refusal 14: no range number; in the other calls, a block with k above 64 or a start that isn't a multiple of 2^k.
 unfoldable pub number_told : Block → Told ℕ

@@ -1,9 +1,11 @@
 -- Comparing two blocks (document 02, W4): equal, first inside second, second inside first, or apart.
-use Rattle.std.specs.Prelude.{ℕ, ◌≡◌, ◌⊎◌, Bool, true, false, cond, ◌&&◌}
-use Rattle.basics.specs.Refusals.{Told, told, refused}
+use Rattle.std.specs.Prelude.{ℕ, ◌≡◌, ◌⊎◌, Bool, true, false, cond, ◌&&◌, Result, Ok, Err}
+use Rattle.basics.specs.declared.Refusal.{Refusal}
+use Rattle.basics.specs.declared.Refusal.TheVariants.{NoBlock}
+use Rattle.basics.specs.Refusals.{Told, told, refused, refusal_number}
 use Rattle.range.specs.declared.Block.{Block}
 use Rattle.range.specs.declared.Comparison.{Comparison}
-use Rattle.range.specs.declared.Comparison.TheVariants.{Equal, FirstInside, SecondInside, Apart, NoBlock}
+use Rattle.range.specs.declared.Comparison.TheVariants.{Equal, FirstInside, SecondInside, Apart}
 use Rattle.range.specs.Range.{is_block, inside, Inside, Apart as NoneOfBoth}
 use Rattle.range.specs.Answer.{Barred}
 
@@ -15,26 +17,29 @@ lying false true = SecondInside
 lying false false = Apart
 
 -- 14 for what is no block.
-unfoldable pub comparison : Block → Block → Comparison
-comparison a b = cond (is_block a && is_block b) (lying (inside a b) (inside b a)) NoBlock
+unfoldable pub comparison : Block → Block → Result Comparison Refusal
+comparison a b = cond (is_block a && is_block b) (Ok (lying (inside a b) (inside b a))) (Err NoBlock)
 
 -- The answer as a number, 1 to 4 in that order, and 0 beside the refusal.
-abbrev pub comparison_told : Comparison → Told ℕ
-comparison_told Equal = told 1
-comparison_told FirstInside = told 2
-comparison_told SecondInside = told 3
-comparison_told Apart = told 4
-comparison_told NoBlock = refused 14 0
+abbrev pub comparison_number : Comparison → ℕ
+comparison_number Equal = 1
+comparison_number FirstInside = 2
+comparison_number SecondInside = 3
+comparison_number Apart = 4
+
+abbrev pub comparison_told : Result Comparison Refusal → Told ℕ
+comparison_told (Ok c) = told (comparison_number c)
+comparison_told (Err r) = refused (refusal_number r) 0
 
 -- ---- what an answer says
 
 abbrev pub Blocks : Block → Block → Type 0
 Blocks a b = (is_block a ≡ true) × (is_block b ≡ true)
 
--- Of the events of two blocks; the last, that one of the two is no block.
-abbrev pub Lies : Block → Block → Comparison → Type 0
-Lies a b Equal = Blocks a b × Inside a b × Inside b a
-Lies a b FirstInside = Blocks a b × Inside a b × (Inside b a → ⊥)
-Lies a b SecondInside = Blocks a b × (Inside a b → ⊥) × Inside b a
-Lies a b Apart = Blocks a b × NoneOfBoth a b
-Lies a b NoBlock = Barred a ⊎ Barred b
+-- Of the events of two blocks; of a refusal, that it is 14 and one of the two is no block.
+abbrev pub Lies : Block → Block → Result Comparison Refusal → Type 0
+Lies a b (Ok Equal) = Blocks a b × Inside a b × Inside b a
+Lies a b (Ok FirstInside) = Blocks a b × Inside a b × (Inside b a → ⊥)
+Lies a b (Ok SecondInside) = Blocks a b × (Inside a b → ⊥) × Inside b a
+Lies a b (Ok Apart) = Blocks a b × NoneOfBoth a b
+Lies a b (Err r) = (r ≡ NoBlock) × (Barred a ⊎ Barred b)

@@ -1,47 +1,32 @@
 // Event ID ranges (001 section 4): blocks, range numbers and what they hold.
 #![tactic(auto)]
 
-ghost use Rattle.std.specs.Prelude.{◌≡◌, ◌-◌, ◌*◌, ◌/◌, ◌^◌, ◌≤◌, true};
+ghost use Rattle.std.specs.Prelude.{◌≡◌, ◌-◌, ◌*◌, ◌/◌, ◌^◌, ◌≤◌, true, false};
+ghost use Rattle.basics.specs.Refusals.{in_numbers, told_or};
 ghost use Rattle.range.specs.Range.{run as run_of, is_block, inside as inside_of, block_of, single as single_of};
-ghost use Rattle.range.specs.Answer.{yes_or_no, range_number, number_told, holds_told};
+ghost use Rattle.range.specs.Answer.{number_told, holds_told};
 ghost use Rattle.range.specs.Comparing.{comparison};
+
+use basics::Refusal;
 
 // The house default for the automatic block's range number.
 pub const HOUSE: u64 = 0x0100_0000_0000_FFFF;
 
-const ALL_ONES: u64 = 0xFFFF_FFFF_FFFF_FFFF;
-
 // 2^k numbers from start on; is_block tells which values are blocks.
 #[repr(C)]
-#[derive(Clone, Copy)]
+#[derive(Clone, Copy, PartialEq, Eq)]
 pub struct Block {
     pub start: u64,
     pub k: u8,
 }
 
-// NoBlock is refusal 14: a block given is none.
-#[derive(Clone, Copy)]
-pub enum Answer {
-    Yes,
-    No,
-    NoBlock,
-}
-
-// NoBlock is refusal 14.
-#[derive(Clone, Copy)]
+// How two blocks lie to each other, by document 02's numbers.
+#[derive(Clone, Copy, PartialEq, Eq)]
 pub enum Comparison {
-    Equal,
+    Equal = 1,
     FirstInside,
     SecondInside,
     Apart,
-    NoBlock,
-}
-
-// NoNumber is refusal 14.
-#[derive(Clone, Copy)]
-pub enum RangeNumber {
-    Number(u64),
-    NoNumber,
 }
 
 // The block of any number: 0 and all ones are every event.
@@ -66,75 +51,56 @@ pub fn single(e: u64) -> Block
 pub fn is_block(b: Block) -> bool
     ensures { result ≡ is_block b }
 {
-    let k = b.k;
-    let start = b.start;
-    k <= u64::trailing_zeros(start) as u8
+    b.k <= b.start.trailing_zeros() as u8
 }
 
-// The range number that a block is written as.
-pub fn number_of(b: Block) -> RangeNumber
-    ensures { range_number result ≡ number_told b }
+// The range number that a block is written as, or refusal 14.
+pub fn number_of(b: Block) -> Result<u64, Refusal>
+    ensures { told_or 0 (in_numbers result) ≡ number_told b }
 {
-    let k = b.k;
-    let start = b.start;
-    if k == 0 {
-        return RangeNumber::NoNumber;
+    if b.k == 0 || !is_block(b) {
+        return Err(Refusal::NoBlock);
     }
-    if !is_block(b) {
-        return RangeNumber::NoNumber;
+    if b.k == 64 {
+        return Ok(u64::MAX);
     }
-    if k < 64 {
-        if (start >> k) % 2 == 0 {
-            RangeNumber::Number(start | mask(k))
-        } else {
-            RangeNumber::Number(start)
-        }
+    if (b.start >> b.k) % 2 == 0 {
+        Ok(b.start | mask(b.k))
     } else {
-        RangeNumber::Number(ALL_ONES)
+        Ok(b.start)
     }
 }
 
-// Whether an event is one of a block's. A start that is a prefix is a multiple of 2^k, so only No and NoBlock are told apart by is_block.
-pub fn holds(b: Block, e: u64) -> Answer
-    ensures { yes_or_no result ≡ holds_told b e }
+// Whether an event is one of a block's, or refusal 14. A start that is a prefix is a multiple of 2^k, so only a no and a refusal are told apart by is_block.
+pub fn holds(b: Block, e: u64) -> Result<bool, Refusal>
+    ensures { told_or false (in_numbers result) ≡ holds_told b e }
 {
-    let k = b.k;
-    let start = b.start;
-    if k > 64 {
-        return Answer::NoBlock;
+    if b.k > 64 {
+        return Err(Refusal::NoBlock);
     }
-    if prefix(e, k) == start {
-        return Answer::Yes;
+    if prefix(e, b.k) == b.start {
+        return Ok(true);
     }
     if is_block(b) {
-        Answer::No
+        Ok(false)
     } else {
-        Answer::NoBlock
+        Err(Refusal::NoBlock)
     }
 }
 
-// How two blocks lie to each other.
-pub fn compare(a: Block, b: Block) -> Comparison
+// How two blocks lie to each other, or refusal 14.
+pub fn compare(a: Block, b: Block) -> Result<Comparison, Refusal>
     ensures { result ≡ comparison a b }
 {
-    if !is_block(a) {
-        return Comparison::NoBlock;
+    if !is_block(a) || !is_block(b) {
+        return Err(Refusal::NoBlock);
     }
-    if !is_block(b) {
-        return Comparison::NoBlock;
-    }
-    if inside(a, b) {
-        return if inside(b, a) {
-            Comparison::Equal
-        } else {
-            Comparison::FirstInside
-        };
-    }
-    if inside(b, a) {
-        Comparison::SecondInside
-    } else {
-        Comparison::Apart
-    }
+    Ok(match (inside(a, b), inside(b, a)) {
+        (true, true) => Comparison::Equal,
+        (true, false) => Comparison::FirstInside,
+        (false, true) => Comparison::SecondInside,
+        (false, false) => Comparison::Apart,
+    })
 }
 
 // Whether one block is inside another, or equal to it: it is no larger, and its start is one of the other's numbers.
@@ -142,12 +108,7 @@ fn inside(a: Block, b: Block) -> bool
     requires { (is_block a ≡ true) × (is_block b ≡ true) }
     ensures { result ≡ inside_of a b }
 {
-    let k = b.k;
-    let start = b.start;
-    if a.k > k {
-        return false;
-    }
-    prefix(a.start, k) == start
+    a.k <= b.k && prefix(a.start, b.k) == b.start
 }
 
 // How many of the lowest bits are equal to the lowest one.
@@ -155,9 +116,9 @@ fn run(r: u64) -> u8
     ensures { result ≡ run_of r }
 {
     if r % 2 == 0 {
-        u64::trailing_zeros(r) as u8
+        r.trailing_zeros() as u8
     } else {
-        u64::trailing_zeros(!r) as u8
+        (!r).trailing_zeros() as u8
     }
 }
 
@@ -166,7 +127,7 @@ fn mask(k: u8) -> u64
     requires { k ≤ 64 }
     ensures { result ≡ 2 ^ k - 1 }
 {
-    if k < 64 { (1 << k) - 1 } else { ALL_ONES }
+    if k < 64 { (1 << k) - 1 } else { u64::MAX }
 }
 
 // What is compared under the mask: the bits above the low k, at their places.

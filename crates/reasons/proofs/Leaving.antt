@@ -1,46 +1,22 @@
 -- The state that some entries have left, one entry later, and the last entry, which is asked.
-use Prim.Native.Nat.{ℕ, zero, suc, ◌+◌, ◌-◌}
-use mathlib.Core.Path.{◌≡◌, refl, sym, ap, ap₂, ◌∙◌}
-use mathlib.Core.List.{List, [], ◌∷◌, ◌++◌}
-use native.Mathlib.Numerals.{add-one}
-use native.Mathlib.Omega.{arith}
-use lib.ListN.{length, take, drop}
+use Rattle.std.proofs.Common.{◌≡◌, ℕ, zero, suc, ◌+◌, Some, None, List, [], ◌∷◌, ◌++◌, refl, sym, ap, ◌∙◌, add-one}
 use Rattle.range.specs.Range.{house}
 use Rattle.basics.specs.Lists.{each}
 use Rattle.gateway_rules.specs.State.{Gate, start_of}
-use Rattle.gateway_rules.specs.History.{Entry, after}
-use Rattle.gateway_rules.specs.Step.{Outcome, start, step}
-use Rattle.index_rules.specs.Index.{index_of}
-use Rattle.index_rules.specs.Boxes.{Box, Right, box_step}
-use Rattle.index_rules.proofs.Boxes.{gate_alone_step}
-use Rattle.gateway.specs.State.{gate_of}
-use Rattle.gateway.specs.declared.Answer.{Answer}
-use Rattle.gateway.specs.Answers.{Seen, seen_in, seen_of}
-use Rattle.replay.specs.Files.{entry_count, port_in, length_in, body_at, body_in}
+use Rattle.gateway_rules.specs.History.{Entry as Heard, after}
+use Rattle.gateway_rules.specs.Step.{step}
+use Rattle.replay.specs.declared.entries.Entry.{Entry}
+use Rattle.replay.specs.declared.entries.Entries.{Entries}
+use Rattle.replay.specs.Entries.{GivesEntry}
+use Rattle.replay.specs.Files.{entry_count, port_in, body_in}
 use Rattle.replay.specs.Lines.{ports}
-use Rattle.replay.proofs.Good.{Good, body_next, body_part}
-use Rattle.replay.proofs.Walk.{started}
 use Rattle.reasons.specs.Lines.{left_after, answer_of, last_of}
 
-pub left_none : (s : List ℕ) (a : Answer) → seen_in a ≡ seen_of (index_of []) (start ports house) → gate_of a.gateway ≡ left_after 0 s
-unfolding left_after
-left_none s a e = started a e
-
--- A box whose index is right does what its gate alone does.
-pub left_next : (s : List ℕ) (i : ℕ) (b : Box) {bytes : List ℕ} (a : Answer) → Right b → b.gate ≡ left_after i s → bytes ≡ body_in s i
-    → seen_in a ≡ seen_of b.index (box_step b (port_in s i) bytes) → gate_of a.gateway ≡ left_after (i + 1) s
-unfolding left_after
-left_next s i b {bytes} a r e f h =
-    ap (λ (x : Seen). x.gate) h
-    ∙ ap (λ (o : Outcome). o.next) (gate_alone_step b (port_in s i) bytes r)
-    ∙ ap₂ (λ (x : Gate) (l : List ℕ). (step x (port_in s i) l).next) e f
-    ∙ ap (λ (n : ℕ). left_after n s) (sym (add-one i))
-
 -- It is what the history of those entries leaves, so that what is known of histories is known of the text.
-abbrev entry_in : List ℕ → ℕ → Entry
+abbrev entry_in : List ℕ → ℕ → Heard
 entry_in s i = record { port = port_in s i; bytes = body_in s i }
 
-after_end : (g : Gate) (h : List Entry) (e : Entry) → after g (h ++ (e ∷ [])) ≡ (step (after g h) e.port e.bytes).next
+after_end : (g : Gate) (h : List Heard) (e : Heard) → after g (h ++ (e ∷ [])) ≡ (step (after g h) e.port e.bytes).next
 after_end g [] e = refl
 after_end g (x ∷ h) e = after_end (step g x.port x.bytes).next h e
 
@@ -53,17 +29,45 @@ left_history s (suc n) =
 
 -- ---- the last entry
 
-module _ (s : List ℕ) (last : ℕ) (is_last : last + 1 ≡ entry_count s) where
-  pub last_lines : answer_of (left_after last s) (port_in s last) (body_in s last) ≡ last_of (entry_count s) s
-  unfolding last_of
-  last_lines = ap (λ (n : ℕ). last_of n s) (sym (add-one last) ∙ is_last)
+pub last_lines : (s : List ℕ) (last : ℕ) → last + 1 ≡ entry_count s → answer_of (left_after last s) (port_in s last) (body_in s last) ≡ last_of (entry_count s) s
+unfolding last_of
+last_lines s last is_last = ap (λ (n : ℕ). last_of n s) (sym (add-one last) ∙ is_last)
 
-  -- Its body ends where the file does.
-  pub last_size : Good s → body_at s last + length_in s last ≡ length s
-  last_size good = sym (body_next s last) ∙ ap (body_at s) is_last ∙ good.total
+pub no_lines : (s : List ℕ) → entry_count s ≡ 0 → [] ≡ last_of (entry_count s) s
+unfolding last_of
+no_lines s z = ap (λ (n : ℕ). last_of n s) (sym z)
 
-  pub last_body : Good s → {size : ℕ} → size ≡ length_in s last → take (length s - (length s - size)) (drop (length s - size) s) ≡ body_in s last
-  last_body good {size} e =
-      let here : length s - size ≡ body_at s last = omega (arith, last_size good, e) in
-      let whole : length s - (length s - size) ≡ length s - size + size - (length s - size) = omega (arith, last_size good, e) in
-      ap (λ (n : ℕ). take n (drop (length s - size) s)) whole ∙ body_part s last here e
+-- An entry of a file, the state that those before it leave, and the entries after it.
+pub record Reached (s : List ℕ) (asked : Entry) (g : Gate) (rest : Entries) : Type 0 where
+  pub file : rest.file.now ≡ s
+  pub next : rest.index ≡ asked.index + 1
+  pub port : asked.port ≡ port_in s asked.index
+  pub body : asked.body.now ≡ body_in s asked.index
+  pub state : g ≡ left_after asked.index s
+
+pub reached_first : (all rest : Entries) (asked : Entry) {g : Gate} → all.index ≡ 0 → GivesEntry all (Some asked) rest → g ≡ start_of ports house → Reached all.file.now asked g rest
+unfolding left_after
+reached_first all rest asked z h e = record {
+  file = h.4;
+  next = h.5 ∙ ap (λ (n : ℕ). n + 1) (sym h.1);
+  port = h.2 ∙ ap (port_in all.file.now) (sym h.1);
+  body = h.3 ∙ ap (body_in all.file.now) (sym h.1);
+  state = e ∙ ap (λ (n : ℕ). left_after n all.file.now) (sym (h.1 ∙ z));
+}
+
+module _ {s : List ℕ} {asked : Entry} {g : Gate} {rest : Entries} (r : Reached s asked g rest) where
+  pub reached_next : (after : Entries) (entry : Entry) {g' : Gate} → GivesEntry rest (Some entry) after → g' ≡ (step g asked.port asked.body.now).next → Reached s entry g' after
+  unfolding left_after
+  reached_next after entry {g'} h e =
+      let here : entry.index ≡ suc asked.index = h.1 ∙ r.next ∙ add-one asked.index in
+      let left : g' ≡ left_after (suc asked.index) s = e ∙ λ i. (step (r.state i) (r.port i) (r.body i)).next in record {
+        file = h.4 ∙ r.file;
+        next = h.5 ∙ ap (λ (n : ℕ). n + 1) (sym h.1);
+        port = h.2 ∙ λ i. port_in (r.file i) (sym h.1 i);
+        body = h.3 ∙ λ i. body_in (r.file i) (sym h.1 i);
+        state = left ∙ ap (λ (n : ℕ). left_after n s) (sym here);
+      }
+
+  pub reached_last : (after : Entries) → GivesEntry rest None after → answer_of g asked.port asked.body.now ≡ last_of (entry_count s) s
+  reached_last after h =
+      (λ i. answer_of (r.state i) (r.port i) (r.body i)) ∙ last_lines s asked.index (sym r.next ∙ h ∙ ap entry_count r.file)

@@ -1,4 +1,3 @@
 mod Asked
 pub mod Leaving
 pub mod Longest
-mod Texts

@@ -1,105 +1,47 @@
 // The lines of an entry that is asked.
-ghost use Rattle.std.specs.Prelude.{◌≡◌};
-ghost use Rattle.text.specs.Text.{filled, end_of};
-ghost use Rattle.gateway_rules.specs.Reasons.{number_in};
+ghost use Rattle.std.specs.Prelude.{◌≡◌, [], ◌++◌};
+ghost use Rattle.basics.specs.Refusals.{refusal_number};
+ghost use Rattle.text.specs.Text.{wrote, decimal, new_line};
+ghost use Rattle.gateway_rules.specs.Reasons.{reason_told};
 ghost use Rattle.index_rules.specs.Boxes.{Right};
-ghost use Rattle.gateway.specs.State.{Whole, gate_in, box_in, lists, index_lists};
-ghost use Rattle.gateway.specs.Indexing.{WholeIndex};
-ghost use Rattle.gateway.specs.Asking.{answer_told};
-ghost use Rattle.reasons.specs.Lines.{line_for, answer_of};
+ghost use Rattle.gateway.specs.State.{gate_of, box_of};
+ghost use Rattle.replay.specs.Lines.{ports as port_count};
+ghost use Rattle.reasons.specs.Lines.{line_of, answer_of};
 
-use gateway::{Head, WhyAnswer};
+use basics::Refusal;
+use gateway::Gateway;
 use gateway_rules::Reason;
-use text::Place;
+use replay::{Entry, PORTS};
+use text::Page;
 
-// Puts a line for each of the four ports into text, or the refusal.
-pub(crate) fn put(
-    head: Head,
-    nodes: &[u64],
-    starts: &[u64],
-    ports: &[u8],
-    sizes: &[u8],
-    order: &[u8],
-    sets: &[u64],
-    port: u8,
-    bytes: &[u8],
-    at: Place,
-    text: &mut [u8],
-) -> Place
-    requires whole { Whole (lists nodes.now starts.now ports.now sizes.now) × WholeIndex (index_lists order.now sets.now) }
-    requires right { Right (box_in head (lists nodes.now starts.now ports.now sizes.now) (index_lists order.now sets.now)) }
-    ensures value { result ≡ end_of at (answer_of (gate_in head (lists nodes.now starts.now ports.now sizes.now)) port bytes.now) text.old }
-    ensures text_after { text.new ≡ filled at (answer_of (gate_in head (lists nodes.now starts.now ports.now sizes.now)) port bytes.now) text.old }
+// Puts a line for each port on a page, or the refusal: the box is asked of each port, and refuses all or none.
+pub(crate) fn put(page: &mut Page, gateway: &Gateway, entry: Entry)
+    requires right { Right (box_of gateway.now) × (gateway.now.head.ports ≡ port_count) }
+    requires within { page.old ≡ wrote page.old [] }
+    ensures { page.new ≡ wrote page.old (answer_of (gate_of gateway.now) entry.entry.port entry.entry.body.now) }
 {
-    let refusal = refused_with(gateway::why(
-        head, nodes, starts, ports, sizes, order, sets, port, 0, bytes,
-    ));
-    if refusal == 0 {
-        let p1 = put_port(
-            head, nodes, starts, ports, sizes, order, sets, port, 0, bytes, at, text,
-        );
-        let p2 = put_port(
-            head, nodes, starts, ports, sizes, order, sets, port, 1, bytes, p1, text,
-        );
-        let p3 = put_port(
-            head, nodes, starts, ports, sizes, order, sets, port, 2, bytes, p2, text,
-        );
-        return put_port(
-            head, nodes, starts, ports, sizes, order, sets, port, 3, bytes, p3, text,
-        );
-    }
-    let p4 = text::put_decimal(refusal as u64, at, text);
-    text::put(b"\n", p4, text)
-}
-
-fn put_port(
-    head: Head,
-    nodes: &[u64],
-    starts: &[u64],
-    ports: &[u8],
-    sizes: &[u8],
-    order: &[u8],
-    sets: &[u64],
-    port: u8,
-    asked: u8,
-    bytes: &[u8],
-    at: Place,
-    text: &mut [u8],
-) -> Place
-    requires whole { Whole (lists nodes.now starts.now ports.now sizes.now) × WholeIndex (index_lists order.now sets.now) }
-    requires right { Right (box_in head (lists nodes.now starts.now ports.now sizes.now) (index_lists order.now sets.now)) }
-    ensures value { result ≡ end_of at (line_for (gate_in head (lists nodes.now starts.now ports.now sizes.now)) port bytes.now asked) text.old }
-    ensures text_after { text.new ≡ filled at (line_for (gate_in head (lists nodes.now starts.now ports.now sizes.now)) port bytes.now asked) text.old }
-{
-    let reason = number_of(gateway::why(
-        head, nodes, starts, ports, sizes, order, sets, port, asked, bytes,
-    ));
-    let p1 = text::put_decimal(asked as u64, at, text);
-    let p2 = text::put(b" ", p1, text);
-    let p3 = text::put_decimal(reason as u64, p2, text);
-    text::put(b"\n", p3, text)
-}
-
-fn refused_with(a: WhyAnswer) -> u8
-    ensures { result ≡ (answer_told a).refusal }
-{
-    match a {
-        WhyAnswer::Because(_) => 0,
-        WhyAnswer::Refused(n) => n,
+    for asked in 0..PORTS {
+        match gateway.why(entry.port, asked, entry.body) {
+            Ok(reason) => put_line(page, asked, reason),
+            Err(refusal) => return put_refusal(page, refusal),
+        }
     }
 }
 
-fn number_of(a: WhyAnswer) -> u8
-    ensures { result ≡ number_in (answer_told a) }
+#[tactic(auto, using(text::proofs::Laws::wrote_next), unfolding(crate::specs::Lines::line_of))]
+fn put_line(page: &mut Page, asked: u8, reason: Reason)
+    ensures { page.new ≡ wrote page.old (line_of asked (reason_told reason).number) }
 {
-    let WhyAnswer::Because(r) = a else {
-        return 0;
-    };
-    match r {
-        Reason::ArrivalPort => 1,
-        Reason::AutomaticEvent => 2,
-        Reason::OpenPort => 3,
-        Reason::HeldBy(_) => 4,
-        Reason::NothingHolds => 5,
-    }
+    page.put_decimal(asked as u64);
+    page.put(b" ");
+    page.put_decimal(u8::from(reason) as u64);
+    page.put(b"\n");
+}
+
+#[tactic(auto, using(text::proofs::Laws::wrote_next))]
+fn put_refusal(page: &mut Page, refusal: Refusal)
+    ensures { page.new ≡ wrote page.old (decimal (refusal_number refusal) ++ new_line) }
+{
+    page.put_decimal(u8::from(refusal) as u64);
+    page.put(b"\n");
 }

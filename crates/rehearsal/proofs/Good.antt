@@ -1,22 +1,23 @@
 -- The size of a call, and what a good file has.
 use Prim.Native.Nat.{ℕ, zero, suc, ◌+◌, ◌-◌, ◌≤◌, ◌<◌}
 use mathlib.Core.Path.{◌≡◌, refl, sym, ap, ◌∙◌}
-use mathlib.Core.Bool.{Bool, true, false, cond, ◌&&◌, ◌||◌}
+use mathlib.Core.Bool.{Bool, true, false, cond, ◌&&◌, ◌||◌, true≢false}
 use mathlib.Core.List.{List}
 use native.Mathlib.Nat.{add-zero}
 use native.Mathlib.Omega.{arith}
 use borrow.Author.Tests.{ne_eqb, le-leb, lt-leb, leb-true}
 use lib.Dec.{eqb, leb}
 use lib.ListN.{length}
+use Rattle.std.specs.Prelude.{Option, Some, None, IsSome}
 use Rattle.numbers.specs.Numbers.{Bytes, number_at}
 use Rattle.numbers.proofs.Laws.{number_at_below}
 use Rattle.basics.proofs.Bools.{both}
+use Rattle.rehearsal.specs.declared.files.Kind.{Kind}
+use Rattle.rehearsal.specs.declared.files.Kind.TheVariants.{Initialise, Announce, Produce, SetStatus, Receive}
+use Rattle.rehearsal.specs.Kinds.{number_of, IsKind}
 use Rattle.rehearsal.specs.Files.{slot_count, calls_at, call_in, room_at, message_length, head_size, size_at, good_call, good_calls, most_calls, good_file}
 
 -- ---- the size of a call
-
-pub head_other : {call : ℕ} → (call ≡ 1 → ⊥) → (call ≡ 4 → ⊥) → (call ≡ 5 → ⊥) → head_size call ≡ 4
-head_other {call} e f g = rw (ne_eqb call 1 e, ne_eqb call 4 f, ne_eqb call 5 g)
 
 pub head_some : (call : ℕ) → (3 ≤ head_size call) × (head_size call ≤ 5)
 head_some call = go (eqb call 1 || eqb call 4) (eqb call 5)
@@ -40,14 +41,32 @@ module _ (s : List ℕ) (at : ℕ) where
   unfolding size_at
   size_head = omega arith
 
-  -- The next call is further on.
-  pub size_some : 3 ≤ size_at s at
-  unfolding size_at
-  size_some = omega (arith, (head_some (call_in s at)).0)
-
 -- A number of two bytes.
 pub number_small : (s : List ℕ) (at : ℕ) → Bytes s → number_at s at 2 < 65536
 number_small s at h = number_at_below s at 2 h
+
+-- ---- the kinds of calls
+
+pub number_between : (kind : Kind) → (1 ≤ number_of kind) × (number_of kind ≤ 5)
+number_between Initialise = (omega arith, omega arith)
+number_between Announce = (omega arith, omega arith)
+number_between Produce = (omega arith, omega arith)
+number_between SetStatus = (omega arith, omega arith)
+number_between Receive = (omega arith, omega arith)
+
+pub only_status : (kind : Kind) → (kind ≡ SetStatus → ⊥) → number_of kind ≡ 4 → ⊥
+only_status Initialise h e = omega arith
+only_status Announce h e = omega arith
+only_status Produce h e = omega arith
+only_status SetStatus h e = h refl
+only_status Receive h e = omega arith
+
+pub only_receive : (kind : Kind) → (kind ≡ Receive → ⊥) → number_of kind ≡ 5 → ⊥
+only_receive Initialise h e = omega arith
+only_receive Announce h e = omega arith
+only_receive Produce h e = omega arith
+only_receive SetStatus h e = omega arith
+only_receive Receive h e = h refl
 
 -- ---- a good call
 
@@ -74,13 +93,47 @@ good_called s at e =
       room = leb-true (room_at s at) 2048 room;
     }
 
--- Of a call that is not cut short only the room is left to test.
-pub room_left : (s : List ℕ) (at : ℕ) → 1 ≤ call_in s at → call_in s at ≤ 5 → at + head_size (call_in s at) ≤ length s
-    → at + size_at s at ≤ length s → good_call s at ≡ leb (room_at s at) 2048
-unfolding good_call
-room_left s at some known head whole =
-    let call = call_in s at in
-    rw (le-leb 1 call some, le-leb call 5 known, le-leb (at + head_size call) (length s) head, le-leb (at + size_at s at) (length s) whole)
+-- The tests of a call in their order.
+module _ (s : List ℕ) (at : ℕ) where
+  pub unknown_call : (1 ≤ call_in s at → call_in s at ≤ 5 → ⊥) → good_call s at ≡ false
+  unfolding good_call
+  unknown_call h = go (leb 1 (call_in s at)) (leb (call_in s at) 5) refl refl
+    where
+      rest : Bool
+      rest = leb (at + head_size (call_in s at)) (length s) && (leb (at + size_at s at) (length s) && leb (room_at s at) 2048)
+
+      go : (t u : Bool) → leb 1 (call_in s at) ≡ t → leb (call_in s at) 5 ≡ u → ((t && u) && rest) ≡ false
+      go false u e f = refl
+      go true false e f = refl
+      go true true e f = absurd (h (leb-true 1 (call_in s at) e) (leb-true (call_in s at) 5 f))
+
+  module _ (kind : Kind) (is : call_in s at ≡ number_of kind) where
+    known : (leb 1 (call_in s at) && leb (call_in s at) 5) ≡ true
+    known =
+        let between = number_between kind in
+        let some : 1 ≤ call_in s at = omega (arith, is, between.0) in
+        let most : call_in s at ≤ 5 = omega (arith, is, between.1) in
+        rw (le-leb 1 (call_in s at) some, le-leb (call_in s at) 5 most)
+
+    pub cut_in_head : length s < at + head_size (call_in s at) → good_call s at ≡ false
+    unfolding good_call
+    cut_in_head h = rw (known, lt-leb (at + head_size (call_in s at)) (length s) h)
+
+    module _ (head : at + head_size (call_in s at) ≤ length s) where
+      pub cut_short : length s < at + size_at s at → good_call s at ≡ false
+      unfolding good_call
+      cut_short h = rw (known, le-leb (at + head_size (call_in s at)) (length s) head, lt-leb (at + size_at s at) (length s) h)
+
+      -- Of a call that is not cut short only the room is left to test.
+      pub room_left : at + size_at s at ≤ length s → good_call s at ≡ leb (room_at s at) 2048
+      unfolding good_call
+      room_left whole =
+          rw (known, le-leb (at + head_size (call_in s at)) (length s) head, le-leb (at + size_at s at) (length s) whole)
+
+-- A good call is of a kind.
+pub call_known : (s : List ℕ) (at : ℕ) → good_call s at ≡ true → (kind : Option Kind) → IsKind kind (call_in s at) → IsSome kind
+call_known s at good None other = absurd (true≢false (sym good ∙ unknown_call s at other))
+call_known s at good (Some kind) is = refl
 
 -- ---- good calls to the end
 

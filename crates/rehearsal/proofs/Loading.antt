@@ -3,9 +3,10 @@ use Prim.Native.Nat.{ℕ, ◌+◌, ◌≤◌, ◌<◌}
 use mathlib.Core.Path.{◌≡◌, refl, ap, ◌∙◌}
 use mathlib.Core.List.{List, ◌++◌}
 use native.Mathlib.Omega.{arith}
-use lib.ListN.{length, drop, set, length-set}
+use lib.ListN.{length, take, drop, set, length-set}
+use lib.Seq.{take_at}
 use Rattle.basics.specs.Lists.{each}
-use Rattle.basics.proofs.Each.{each_none, each_more, each_all}
+use Rattle.basics.proofs.Each.{each_none, each_more, each_length}
 
 pub record Loaded (f : ℕ → ℕ) (start : List ℕ) (i : ℕ) (out : List ℕ) : Type 0 where
   pub inside : i ≤ length start
@@ -23,5 +24,6 @@ module _ {f : ℕ → ℕ} {start : List ℕ} {i : ℕ} {out : List ℕ} (l : Lo
     numbers = each_more 0 f i start out l.numbers h x e;
   }
 
-  pub loaded_all : (n : ℕ) → length start ≡ n → n ≤ i → out ≡ each n f
-  loaded_all n e h = each_all f i start out l.numbers (omega (arith, l.inside)) ∙ ap (λ (k : ℕ). each k f) e
+  -- The first places are filled in.
+  pub loaded_first : take i out ≡ each i f
+  loaded_first = ap (take i) l.numbers ∙ take_at (each i f) (drop i start) i (each_length i f)

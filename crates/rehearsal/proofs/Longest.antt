@@ -11,7 +11,7 @@ use Rattle.numbers.specs.Numbers.{bytes_of}
 use Rattle.numbers.proofs.Laws.{bytes_length}
 use Rattle.basics.specs.Sets.{set_of}
 use Rattle.basics.proofs.Each.{each_length, each_up_to}
-use Rattle.text.specs.Text.{decimal, hex_of, bad_file}
+use Rattle.text.specs.Text.{decimal, hex_of, bad_file, or_dash}
 use Rattle.text.proofs.Lengths.{decimal_length, hex_length}
 use Rattle.node_rules.specs.declared.Call.{Call}
 use Rattle.node_rules.specs.Boards.{Binary, Board, unadvertised, advertised}
@@ -20,7 +20,7 @@ use Rattle.node_rules.specs.Calls.{Outcome, outcome}
 use Rattle.node_rules.proofs.Exactly.{refused_keeps}
 use Rattle.node_rules.proofs.Limits.{call_up_to, call_size, accepted_few, call_binary, call_marks}
 use Rattle.rehearsal.specs.Files.{slot_count, board_in, calls_at, size_at, call_at, message_at, room_at, outcome_at, good_file, most_calls}
-use Rattle.rehearsal.specs.Lines.{or_dash, digits_of, line_of, line_for, lines_from, call_lines, text_of, longest_line, longest}
+use Rattle.rehearsal.specs.Lines.{digits_of, line_of, line_for, lines_from, call_lines, text_of, longest_line, longest}
 use Rattle.rehearsal.proofs.Good.{good_file_lem}
 
 -- ---- the parts of a line

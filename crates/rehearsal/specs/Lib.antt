@@ -1,3 +1,4 @@
 pub mod Files
+pub mod Kinds
 pub mod Lines
 pub mod Calls

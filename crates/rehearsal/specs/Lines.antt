@@ -2,16 +2,11 @@
 use Rattle.std.specs.Prelude.{ℕ, zero, suc, ◌+◌, ◌*◌, cond, List, [], ◌∷◌, ◌++◌, leb, length}
 use Rattle.numbers.specs.Numbers.{bytes_of}
 use Rattle.basics.specs.Sets.{set_of}
-use Rattle.text.specs.Text.{decimal, hex_of, space, new_line, bad_file}
+use Rattle.text.specs.Text.{decimal, hex_of, space, new_line, bad_file, or_dash}
 use Rattle.node_rules.specs.Boards.{Board}
 use Rattle.node_rules.specs.Sending.{all_bytes}
 use Rattle.node_rules.specs.Calls.{Outcome}
 use Rattle.rehearsal.specs.Files.{board_in, calls_at, size_at, outcome_at, good_file, most_calls}
-
--- What is there, or a `-`.
-abbrev pub or_dash : List ℕ → List ℕ
-or_dash [] = 45 ∷ []
-or_dash (x ∷ xs) = x ∷ xs
 
 -- A digit for each mark.
 unfoldable pub digits_of : List ℕ → List ℕ

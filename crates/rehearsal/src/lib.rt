@@ -1,57 +1,41 @@
 // A board file in, a line a call out: what a bench hand sees when a board is put through its calls.
 #![tactic(auto)]
 
+mod bench;
 mod calls;
 mod files;
 mod lines;
-mod slots;
 
-ghost use Rattle.std.specs.Prelude.{◌≡◌, length, drop};
-ghost use Rattle.text.specs.Text.{filled_at, end_at, laid_over};
+ghost use Rattle.std.specs.Prelude.{◌≡◌, ◌≤◌, length, drop};
+ghost use Rattle.text.specs.Text.{filled_at, end_at, laid_over, wrote};
 ghost use Rattle.text.specs.Parts.{part_from};
 ghost use Rattle.rehearsal.specs.Lines.{text_of};
 
+use bench::Bench;
 pub use lines::put_line;
-use node_rules::Node;
-use text::Place;
+use text::Page;
 
 // Puts the text of a file into text, from a byte of it on, as much as fits, and answers how many bytes that took.
+#[tactic(auto, using(text::proofs::Parts::page_ends))]
 pub fn rehearse(file: &[u8], skip: usize, text: &mut [u8]) -> usize
     ensures value { result ≡ end_at 0 (drop skip (text_of file.now)) text.old }
     ensures text_after { text.new ≡ filled_at 0 (drop skip (text_of file.now)) text.old }
 {
-    let first = Place { skip, at: 0 };
+    let mut page = Page { skip, at: 0, text };
+    put_text(&mut page, file);
+    page.at
+}
+
+fn put_text(page: &mut Page, file: &[u8])
+    requires { page.old.at ≤ length page.old.text.now }
+    ensures { page.new ≡ wrote page.old (text_of file.now) }
+{
     if !files::good(file) {
-        let end = text::put(b"bad file\n", first, text);
-        return end.at;
+        page.put(b"bad file\n");
+        return;
     }
-    let mut roles = [0u8; 100];
-    let mut events = [0u64; 100];
-    let mut statuses = [0u8; 100];
-    let mut marks = [0u8; 100];
-    let count = file[16] as usize;
-    slots::load(
-        file,
-        &mut roles[0..count],
-        &mut events[0..count],
-        &mut statuses[0..count],
-    );
-    let node = Node {
-        id: numbers::read_at(file, 0, 8),
-        state: 0,
-        automatic: range::block_of(numbers::read_at(file, 8, 8)),
-    };
-    let end = calls::run(
-        node,
-        file,
-        &roles[0..count],
-        &events[0..count],
-        &mut statuses[0..count],
-        &mut marks[0..count],
-        first,
-        text,
-    );
-    end.at
+    let mut bench = Bench::of(file);
+    calls::put_lines(page, file, &mut bench);
 }
 
 // Puts a part of a file's text, from a byte of it on, at the start of text, and answers how long it is. The last part is the first that does not fill text.

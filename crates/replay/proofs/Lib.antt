@@ -1,5 +1,4 @@
 pub mod Good
 pub mod Walk
-mod Running
-mod Texts
 pub mod Longest
+mod Running

@@ -1,27 +1,24 @@
--- The entries that are done, and the lines that are still to be put in.
-use Prim.Native.Nat.{ℕ, suc, ◌+◌, ◌-◌, ◌≤◌, ◌<◌}
+-- The lines of the entries that are still to come, after one of them.
+use Prim.Native.Nat.{ℕ, suc, ◌-◌}
 use mathlib.Core.Path.{◌≡◌, refl, sym, ap, ◌∙◌}
 use mathlib.Core.List.{List, [], ◌++◌}
-use native.Mathlib.Nat.{sub-zero}
+use Rattle.std.specs.Prelude.{Some, None}
 use native.Mathlib.Numerals.{add-one}
 use native.Mathlib.Omega.{arith}
-use lib.ListN.{length, take, drop}
-use Rattle.text.specs.declared.Place.{Place}
-use Rattle.text.specs.Text.{filled, end_of}
-use Rattle.text.proofs.Laws.{Remains, remains_next, remains_none}
+use lib.ListN.{length}
 use Rattle.gateway_rules.specs.State.{Gate}
 use Rattle.index_rules.specs.Index.{Index}
-use Rattle.gateway.specs.State.{Lists, IndexLists, line_at, gate_in, head_with}
+use Rattle.gateway.specs.State.{lists_of, line_at, gate_in, gate_of}
 use Rattle.gateway_rules.specs.Step.{Outcome, step}
-use Rattle.gateway.specs.declared.state.Head.{Head}
+use Rattle.gateway.specs.declared.state.Gateway.{Gateway}
 use Rattle.gateway.specs.declared.LentAnswer.{LentAnswer}
-use Rattle.gateway.specs.Answers.{Seen, seen_lent, seen_of}
+use Rattle.gateway.specs.Answers.{Seen, seen_held, seen_of}
 use Rattle.basics.proofs.Each.{each_length}
-use Rattle.replay.specs.Files.{entry_count, entry_at, port_in, length_in}
-use Rattle.replay.specs.Lines.{line_of, line_for, step_at, lines_from}
-use Rattle.replay.proofs.Walk.{AtEntry, entry_first, entry_body, entry_next}
-
--- ---- the lines of the entries from an entry on
+use Rattle.replay.specs.declared.entries.Entry.{Entry}
+use Rattle.replay.specs.declared.entries.Entries.{Entries}
+use Rattle.replay.specs.Entries.{GivesEntry}
+use Rattle.replay.specs.Files.{entry_count}
+use Rattle.replay.specs.Lines.{line_of, line_for, step_at, lines_from, lines_of}
 
 module _ (i : ℕ) (g : Gate) (s : List ℕ) where
   lines_end : lines_from 0 i g s ≡ []
@@ -33,47 +30,28 @@ module _ (i : ℕ) (g : Gate) (s : List ℕ) where
   lines_next n = refl
 
 -- The line of an answer, with the count that the step leaves.
-line_for_lem : (i : ℕ) (o : Outcome) (head : Head) (a : LentAnswer) (t : Lists) (x : IndexLists) (before : Index) → seen_lent head a t x ≡ seen_of before o → line_of i a.refusal a.sent a.count ≡ line_for i o
+line_for_lem : (i : ℕ) (o : Outcome) (a : LentAnswer) (g : Gateway) (before : Index) → seen_held a g ≡ seen_of before o → line_of i a.refusal a.sent g.head.count ≡ line_for i o
 unfolding gate_in
-line_for_lem i o head a t x before e =
-    let count = sym (each_length a.count (line_at t)) ∙ ap (λ (x : Seen). length x.gate.lines) e in
+line_for_lem i o a g before e =
+    let count = sym (each_length g.head.count (line_at (lists_of g))) ∙ ap (λ (x : Seen). length x.gate.lines) e in
     λ z. line_of i (e z).refusal (e z).sent (count z)
 
--- ---- the entries done
+module _ (g : Gate) (e after : Entries) where
+  pub lines_none : GivesEntry e None after → lines_of g e ≡ []
+  lines_none h =
+      let none : entry_count e.file.now - e.index ≡ 0 = omega (arith, h) in
+      ap (λ (n : ℕ). lines_from n e.index g e.file.now) none ∙ lines_end e.index g e.file.now
 
--- Before entry i, whose body stands at a place of the file; the box began as g₀ and is g.
-pub record Running (g₀ : Gate) (file : List ℕ) (first : Place) (text₀ : List ℕ) (i at : ℕ) (g : Gate) (next : Place) (text : List ℕ) : Type 0 where
-  pub entry : AtEntry file i at
-  pub rest : Remains first (lines_from (entry_count file) 0 g₀ file) text₀ next (lines_from (entry_count file - i) i g file) text
-
-pub running_start : (g₀ : Gate) (file : List ℕ) (first : Place) (text : List ℕ) {count : ℕ}
-    → count ≡ entry_count file → first.at ≤ length text → Running g₀ file first text 0 (entry_at count) g₀ first text
-running_start g₀ file first text f h = record {
-  entry = entry_first file f;
-  rest = rw (sub-zero (entry_count file)) (record { inside = h; place = refl; bytes = refl });
-}
-
-module _ {g₀ : Gate} {file : List ℕ} {first : Place} {text₀ : List ℕ} {i at : ℕ} {g : Gate} {next : Place} {text : List ℕ} (r : Running g₀ file first text₀ i at g next text) where
-  -- The entry's line is put in, and the next body stands after its own.
-  pub running_next : (head : Head) (a : LentAnswer) (t : Lists) (x : IndexLists) (before : Index) {next' : Place} {text' : List ℕ} {size : ℕ} → i < entry_count file → size ≡ length_in file i
-      → seen_lent head a t x ≡ seen_of before (step g (port_in file i) (take (at + size - at) (drop at file)))
-      → next' ≡ end_of next (line_of i a.refusal a.sent a.count) text
-      → text' ≡ filled next (line_of i a.refusal a.sent a.count) text
-      → Running g₀ file first text₀ (i + 1) (at + size) (gate_in (head_with head a.marks a.count) t) next' text'
-  running_next head a t x before h z e e₁ f₁ =
-      let left : entry_count file - i ≡ suc (entry_count file - (i + 1)) = omega (arith, h) in
-      let taken : seen_lent head a t x ≡ seen_of before (step_at g file i) = e ∙ ap (λ (l : List ℕ). seen_of before (step g (port_in file i) l)) (entry_body r.entry z) in
-      let line = line_for_lem i (step_at g file i) head a t x before taken in
-      let lines : lines_from (entry_count file - i) i g file ≡ line_of i a.refusal a.sent a.count ++ lines_from (entry_count file - (i + 1)) (i + 1) (gate_in (head_with head a.marks a.count) t) file
-      = ap (λ (n : ℕ). lines_from n i g file) left
-      ∙ lines_next i g file (entry_count file - (i + 1))
-      ∙ λ z. sym line z ++ lines_from (entry_count file - (i + 1)) (sym (add-one i) z) (sym taken z).gate file in
-      record {
-        entry = entry_next r.entry z h;
-        rest = remains_next (line_of i a.refusal a.sent a.count) (rw lines at r.rest) e₁ f₁;
-      }
-
-  pub running_end : entry_count file ≤ i → (next ≡ end_of first (lines_from (entry_count file) 0 g₀ file) text₀) × (text ≡ filled first (lines_from (entry_count file) 0 g₀ file) text₀)
-  running_end h =
-      let none : entry_count file - i ≡ 0 = omega (arith, h) in
-      remains_none (rw (ap (λ (n : ℕ). lines_from n i g file) none ∙ lines_end i g file) at r.rest)
+  -- The first of them is the entry's.
+  pub lines_some : (entry : Entry) (a : LentAnswer) (next : Gateway) (before : Index) → GivesEntry e (Some entry) after
+      → seen_held a next ≡ seen_of before (step g entry.port entry.body.now)
+      → lines_of g e ≡ line_of entry.index a.refusal a.sent next.head.count ++ lines_of (gate_of next) after
+  lines_some entry a next before h s =
+      let file = e.file.now in
+      let i = e.index in
+      let taken : seen_held a next ≡ seen_of before (step_at g file i) = s ∙ λ z. seen_of before (step g (h.2 z) (h.3 z)) in
+      let left : entry_count file - i ≡ suc (entry_count after.file.now - after.index) = omega (arith, h.0, h.5, ap entry_count h.4) in
+      let line = ap (λ (n : ℕ). line_of n a.refusal a.sent next.head.count) h.1 ∙ line_for_lem i (step_at g file i) a next before taken in
+      ap (λ (n : ℕ). lines_from n i g file) left
+      ∙ lines_next i g file (entry_count after.file.now - after.index)
+      ∙ λ z. sym line z ++ lines_from (entry_count after.file.now - after.index) (sym (h.5 ∙ add-one i) z) (sym taken z).gate (sym h.4 z)

@@ -1,20 +1,21 @@
 -- The walk over a trial file's entries: the box that it starts, and where each entry's body stands.
 use Prim.Native.Nat.{ℕ, ◌+◌, ◌-◌, ◌≤◌, ◌<◌}
 use mathlib.Core.Path.{◌≡◌, sym, ap, ap₂, ◌∙◌}
-use mathlib.Core.List.{List, []}
+use mathlib.Core.List.{[]}
 use native.Mathlib.Omega.{arith}
 use lib.ListN.{length, take, drop}
 use Rattle.range.specs.Range.{house}
-use Rattle.gateway_rules.specs.State.{start_of}
+use Rattle.gateway_rules.specs.State.{Gate, start_of}
 use Rattle.gateway_rules.specs.Step.{start}
 use Rattle.index_rules.specs.Index.{index_of}
 use Rattle.index_rules.specs.Boxes.{Right}
-use Rattle.gateway.specs.State.{gate_of, box_of}
+use Rattle.gateway.specs.State.{gate_in, gate_of, box_of}
 use Rattle.gateway.specs.declared.Answer.{Answer}
 use Rattle.gateway.specs.Answers.{Seen, seen_in, seen_of}
+use Rattle.replay.specs.declared.entries.Entries.{Entries}
 use Rattle.replay.specs.Files.{entry_count, entry_at, length_in, body_at, body_in}
 use Rattle.replay.specs.Lines.{ports}
-use Rattle.replay.proofs.Good.{Good, body_first, body_next, body_part, body_within}
+use Rattle.replay.proofs.Good.{good_file_lem, body_next, body_part, body_within}
 
 -- A start with 4 ports is not refused, and its index is right.
 module _ (a : Answer) (e : seen_in a ≡ seen_of (index_of []) (start ports house)) where
@@ -22,27 +23,36 @@ module _ (a : Answer) (e : seen_in a ≡ seen_of (index_of []) (start ports hous
   unfolding start
   started = ap (λ (x : Seen). x.gate) e
 
+  pub started_ports : a.gateway.head.ports ≡ ports
+  unfolding gate_in
+  started_ports = ap (λ (g : Gate). g.ports) started
+
   pub started_right : Right (box_of a.gateway)
   unfolding start
   started_right = ap (λ (x : Seen). x.index) e ∙ sym (ap (λ (x : Seen). index_of x.gate.lines) e)
 
--- Before entry i, whose body stands at a place of the file.
-pub record AtEntry (file : List ℕ) (i at : ℕ) : Type 0 where
-  pub inside : i ≤ entry_count file
-  pub body : at ≡ body_at file i
+-- Entries of which one is still to come, and the length of its body.
+module _ (e : Entries) {size : ℕ} (more : e.index < entry_count e.file.now) (z : size ≡ length_in e.file.now e.index) where
+  pub entry_body : take (e.at + size - e.at) (drop e.at e.file.now) ≡ body_in e.file.now e.index
+  entry_body = body_part e.file.now e.index e.placed z
 
-pub entry_first : (file : List ℕ) {count : ℕ} → count ≡ entry_count file → AtEntry file 0 (entry_at count)
-entry_first file e = record { inside = omega arith; body = ap entry_at e ∙ sym (body_first file) }
-
-module _ {file : List ℕ} {i at size : ℕ} (r : AtEntry file i at) (z : size ≡ length_in file i) where
-  -- What is lent of the file is the entry's body.
-  pub entry_body : take (at + size - at) (drop at file) ≡ body_in file i
-  entry_body = body_part file i r.body z
-
-  -- It is within the file.
-  pub entry_within : Good file → i < entry_count file → at + size ≤ length file
-  entry_within good h = omega (arith, body_within good i h, r.body, z)
+  pub entry_within : e.at + size ≤ length e.file.now
+  entry_within = omega (arith, body_within (good_file_lem e.file.now e.good) e.index more, e.placed, z)
 
   -- The next body stands after it.
-  pub entry_next : i < entry_count file → AtEntry file (i + 1) (at + size)
-  entry_next h = record { inside = omega (arith, h); body = ap₂ ◌+◌ r.body z ∙ sym (body_next file i) }
+  pub entry_next : e.at + size ≡ body_at e.file.now (e.index + 1)
+  entry_next = ap₂ ◌+◌ e.placed z ∙ sym (body_next e.file.now e.index)
+
+-- What the table of a good file has.
+module _ (e : Entries) where
+  pub few : e.index ≤ 1000
+  few = omega (arith, (good_file_lem e.file.now e.good).count, e.within)
+
+  pub in_table : e.index < entry_count e.file.now → entry_at (e.index + 1) ≤ length e.file.now
+  in_table h = omega (arith, (good_file_lem e.file.now e.good).table, h)
+
+  pub small : length e.file.now ≤ 65536
+  small = (good_file_lem e.file.now e.good).size
+
+  pub one_more : {count : ℕ} → count ≡ entry_count e.file.now → (e.index ≡ count → ⊥) → e.index < entry_count e.file.now
+  one_more h n = omega (arith, h, n, e.within)

@@ -1,11 +1,12 @@
 -- What a trial file prints: a line for each entry, or "bad file" (document 01, "Trial program").
-use Rattle.std.specs.Prelude.{ℕ, zero, suc, ◌*◌, cond, List, [], ◌++◌, eqb, length}
+use Rattle.std.specs.Prelude.{ℕ, zero, suc, ◌-◌, ◌*◌, cond, List, [], ◌++◌, eqb, length}
 use Rattle.numbers.specs.Bits.{bit}
 use Rattle.basics.specs.Sets.{set_of}
 use Rattle.range.specs.Range.{house}
 use Rattle.text.specs.Text.{decimal, ascii, space, new_line, bad_file}
 use Rattle.gateway_rules.specs.State.{Gate, start_of}
 use Rattle.gateway_rules.specs.Step.{Outcome, step}
+use Rattle.replay.specs.declared.entries.Entries.{Entries}
 use Rattle.replay.specs.Files.{entry_count, port_in, body_in, good_file}
 
 abbrev pub refused_word : List ℕ
@@ -38,6 +39,10 @@ step_at g s i = step g (port_in s i) (body_in s i)
 unfoldable pub lines_from : ℕ → ℕ → Gate → List ℕ → List ℕ
 lines_from zero i g s = []
 lines_from (suc n) i g s = line_for i (step_at g s i) ++ lines_from n (suc i) (step_at g s i).next s
+
+-- The lines of the entries that are still to come.
+abbrev pub lines_of : Gate → Entries → List ℕ
+lines_of g e = lines_from (entry_count e.file.now - e.index) e.index g e.file.now
 
 unfoldable pub text_of : List ℕ → List ℕ
 text_of s = cond (good_file s) (lines_from (entry_count s) 0 (start_of ports house) s) bad_file

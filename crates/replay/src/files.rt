@@ -22,16 +22,14 @@ pub fn good_file(file: &[u8]) -> bool
 }
 
 // Where the last body ends.
+#[tactic(auto, using(crate::proofs::Good::body_first, crate::proofs::Good::body_next))]
 fn end(file: &[u8], count: usize) -> usize
     requires { (count ≡ entry_count file.now) × (count ≤ 1000) × (entry_at count ≤ length file.now) }
     ensures { result ≡ body_at file.now count }
 {
     let mut at = 2 + count * 3;
-    let mut i = 0;
-    while i < count {
-        let entry = 2 + i * 3;
-        at += numbers::read_at(file, entry + 1, 2) as usize;
-        i += 1;
+    for i in 0..count {
+        at += numbers::read_at(file, 2 + i * 3 + 1, 2) as usize;
     }
     at
 }

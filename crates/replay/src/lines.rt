@@ -1,48 +1,41 @@
 // The line of an entry.
 ghost use Rattle.std.specs.Prelude.{◌≡◌};
-ghost use Rattle.text.specs.Text.{filled, end_of};
+ghost use Rattle.text.specs.Text.{wrote};
 ghost use Rattle.replay.specs.Lines.{port_digits, answer_text, line_of};
 
-use text::Place;
+use text::Page;
 
-// Puts the line of entry i into text: the refusal or a digit a port, and the lines in the table.
-pub(crate) fn put(
-    i: usize,
-    refusal: u8,
-    sent: u8,
-    lines: usize,
-    at: Place,
-    text: &mut [u8],
-) -> Place
-    ensures value { result ≡ end_of at (line_of i refusal sent lines) text.old }
-    ensures text_after { text.new ≡ filled at (line_of i refusal sent lines) text.old }
+// Puts the line of entry i on a page: the refusal or a digit a port, and the lines in the table.
+#[tactic(auto, using(text::proofs::Laws::wrote_next), unfolding(crate::specs::Lines::line_of))]
+pub(crate) fn put(page: &mut Page, i: usize, refusal: u8, sent: u8, lines: usize)
+    ensures { page.new ≡ wrote page.old (line_of i refusal sent lines) }
 {
-    let p1 = text::put_decimal(i as u64, at, text);
-    let p2 = text::put(b" ", p1, text);
-    let p3 = put_answer(refusal, sent, p2, text);
-    let p4 = text::put(b" ", p3, text);
-    let p5 = text::put_decimal(lines as u64, p4, text);
-    text::put(b"\n", p5, text)
+    page.put_decimal(i as u64);
+    page.put(b" ");
+    put_answer(page, refusal, sent);
+    page.put(b" ");
+    page.put_decimal(lines as u64);
+    page.put(b"\n");
 }
 
-fn put_answer(refusal: u8, sent: u8, at: Place, text: &mut [u8]) -> Place
-    ensures value { result ≡ end_of at (answer_text refusal sent) text.old }
-    ensures text_after { text.new ≡ filled at (answer_text refusal sent) text.old }
+#[tactic(auto, using(text::proofs::Laws::wrote_next))]
+fn put_answer(page: &mut Page, refusal: u8, sent: u8)
+    ensures { page.new ≡ wrote page.old (answer_text refusal sent) }
 {
     if refusal == 0 {
-        return put_ports(sent, at, text);
+        return put_ports(page, sent);
     }
-    let p1 = text::put(b"refused ", at, text);
-    text::put_decimal(refusal as u64, p1, text)
+    page.put(b"refused ");
+    page.put_decimal(refusal as u64);
 }
 
 // One digit per port from 0.
-fn put_ports(sent: u8, at: Place, text: &mut [u8]) -> Place
-    ensures value { result ≡ end_of at (port_digits sent) text.old }
-    ensures text_after { text.new ≡ filled at (port_digits sent) text.old }
+#[tactic(auto, using(text::proofs::Laws::wrote_next))]
+fn put_ports(page: &mut Page, sent: u8)
+    ensures { page.new ≡ wrote page.old (port_digits sent) }
 {
-    let p1 = text::put_decimal((sent % 2) as u64, at, text);
-    let p2 = text::put_decimal((sent / 2 % 2) as u64, p1, text);
-    let p3 = text::put_decimal((sent / 4 % 2) as u64, p2, text);
-    text::put_decimal((sent / 8 % 2) as u64, p3, text)
+    page.put_decimal((sent % 2) as u64);
+    page.put_decimal((sent / 2 % 2) as u64);
+    page.put_decimal((sent / 4 % 2) as u64);
+    page.put_decimal((sent / 8 % 2) as u64);
 }

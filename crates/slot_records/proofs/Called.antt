@@ -1,5 +1,5 @@
 -- A call of the node on the places that are used, and the columns after it.
-use Prim.Native.Nat.{ℕ, ◌≤◌}
+use Prim.Native.Nat.{ℕ, ◌≤◌, min}
 use native.Mathlib.Omega.{arith}
 use mathlib.Core.Path.{◌≡◌, refl, sym, ap, ◌∙◌}
 use mathlib.Core.Bool.{Bool, true, false}
@@ -24,6 +24,13 @@ few_most n = by_test (ltb n places) refl
     by_test : (t : Bool) → ltb n places ≡ t → few n ≤ places
     by_test true e = let l = ltb-true n places e in omega (arith, few_short n l)
     by_test false e = omega (arith, few_long n (ltb-false n places e))
+
+pub few_min : (n : ℕ) → min n places ≡ few n
+few_min n = by_test (ltb n places) refl
+  where
+    by_test : (t : Bool) → ltb n places ≡ t → min n places ≡ few n
+    by_test true e = let l = ltb-true n places e in omega (arith, few_short n l)
+    by_test false e = let l = ltb-false n places e in omega (arith, few_long n l)
 
 -- So many places are there.
 pub few_within : (n m : ℕ) (l : List ℕ) → m ≡ few n → length l ≡ places → m ≤ length l

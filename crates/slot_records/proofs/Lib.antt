@@ -2,4 +2,3 @@ pub mod Places
 pub mod Gathered
 pub mod Together
 pub mod Called
-pub mod Fields

@@ -1,12 +1,10 @@
 -- Slot i in the columns, within the 65 places and beyond them.
 use Prim.Native.Nat.{ℕ, ◌≤◌, ◌<◌}
-use native.Mathlib.Omega.{arith}
 use mathlib.Core.Path.{◌≡◌}
-use lib.Seq.{set_out}
 use borrow.Author.Tests.{le-ltb, lt-ltb}
 use Rattle.slot_records.specs.declared.Slot.{Slot}
 use Rattle.slot_records.specs.declared.columns.Columns.{Columns}
-use Rattle.slot_records.specs.Columns.{places, few, placed, slot_at, back, Fits}
+use Rattle.slot_records.specs.Columns.{places, few, slot_at, back}
 
 -- How many of the places so many slots use.
 pub few_short : (n : ℕ) → n < places → few n ≡ n
@@ -14,11 +12,6 @@ few_short n l = rw (lt-ltb n places l)
 
 pub few_long : (n : ℕ) → places ≤ n → few n ≡ places
 few_long n far = rw (le-ltb n places far)
-
--- Beyond the places nothing is placed.
-pub unplaced : {n : ℕ} (c : Columns) (i : ℕ) (s : Slot) → Fits n c → places ≤ i → c ≡ placed c i s
-unplaced c i s f far =
-    rw (set_out c.roles i s.role (omega (arith, f.roles)), set_out c.events i s.event (omega (arith, f.events)), set_out c.statuses i s.status (omega (arith, f.statuses)), set_out c.marks i s.mark (omega (arith, f.marks)))
 
 pub back_within : (c : Columns) (i : ℕ) (s : Slot) → i < places → slot_at c i ≡ back c i s
 back_within c i s l = rw (lt-ltb i places l)

@@ -18,7 +18,6 @@ use Rattle.node.specs.Lent.{slots_of, board_of}
 use Rattle.node.specs.Answers.{Result, result, result_by, result_of}
 use Rattle.slot_records.specs.declared.Slot.{Slot}
 use Rattle.slot_records.specs.declared.columns.Columns.{Columns}
-use Rattle.slot_records.specs.declared.columns.Done.{Done}
 use Rattle.slot_records.specs.Apart.{apart}
 use Rattle.slot_records.specs.Columns.{places, few, back, no_slot, used, Fits, gathered, scattered}
 use Rattle.slot_records.proofs.Places.{few_short, few_long, back_within, back_beyond}
@@ -107,21 +106,20 @@ module _ (node : Node) (call : Call) (bytes : List ℕ) (room : ℕ) where
 
 -- ---- the three parts of `perform` in a row: gathered, called, put back
 
-module _ (node : Node) (call : Call) (bytes out : List ℕ) (ss : List Slot) (d : Done) (out' : List ℕ) where
+module _ (node : Node) (call : Call) (bytes out : List ℕ) (ss : List Slot) (a : Answer) (d : Columns) (out' : List ℕ) where
   abbrev zs : List Slot
-  zs = scattered ss d.columns (length ss)
+  zs = scattered ss d (length ss)
 
-  by_size_lem : result d.answer (used d.columns) out' ≡ result_of node call bytes (used (c ss)) out → Fits (c ss).count d.columns → (t : Bool) → ltb (length ss) places ≡ t
-      → result d.answer (apart zs) out' ≡ result_of node call bytes (apart ss) out
-  by_size_lem did fits true e =
-      ap (λ (s : Slots). result d.answer s out') (put_back ss d.columns fits e) ∙ did ∙ ap (λ (s : Slots). result_of node call bytes s out) (taken_apart ss e)
+  by_size_lem : result a (used d) out' ≡ result_of node call bytes (used (c ss)) out → Fits (c ss).count d → (t : Bool) → ltb (length ss) places ≡ t
+      → result a (apart zs) out' ≡ result_of node call bytes (apart ss) out
+  by_size_lem did fits true e = ap (λ (s : Slots). result a s out') (put_back ss d fits e) ∙ did ∙ ap (λ (s : Slots). result_of node call bytes s out) (taken_apart ss e)
   by_size_lem did fits false e =
-      let refused : result d.answer (used d.columns) out' ≡ result_by out (refusing (board_of node (used (c ss))) 7) = did ∙ ap (result_by out) (barred_used node call bytes (length out) ss e) in
-      let same = unchanged ss d.columns fits e (ap (λ (l : Result). l.slots) refused) in
+      let refused : result a (used d) out' ≡ result_by out (refusing (board_of node (used (c ss))) 7) = did ∙ ap (result_by out) (barred_used node call bytes (length out) ss e) in
+      let same = unchanged ss d fits e (ap (λ (l : Result). l.slots) refused) in
       (λ i. result (refused i).answer (apart (same i)) (refused i).out) ∙ ap (result_by out) (sym (barred_apart node call bytes (length out) ss e))
 
-  pub put_together : {c₀ : Columns} {a : Answer} {us : List Slot} → c₀ ≡ gathered ss (length ss) → result d.answer (used d.columns) out' ≡ result_of node call bytes (used c₀) out → Fits c₀.count d.columns
-      → a ≡ d.answer → us ≡ zs → result a (apart us) out' ≡ result_of node call bytes (apart ss) out
-  put_together gathers done fits answers scatters =
-      (λ i. result (answers i) (apart (scatters i)) out')
-      ∙ by_size_lem (subst (λ (g : Columns). result d.answer (used d.columns) out' ≡ result_of node call bytes (used g) out) gathers done) (subst (λ (g : Columns). Fits g.count d.columns) gathers fits) (ltb (length ss) places) refl
+  pub put_together : {c₀ : Columns} {us : List Slot} → c₀ ≡ gathered ss (length ss) → result a (used d) out' ≡ result_of node call bytes (used c₀) out → Fits c₀.count d
+      → us ≡ zs → result a (apart us) out' ≡ result_of node call bytes (apart ss) out
+  put_together gathers done fits scatters =
+      ap (λ (us : List Slot). result a (apart us) out') scatters
+      ∙ by_size_lem (subst (λ (g : Columns). result a (used d) out' ≡ result_of node call bytes (used g) out) gathers done) (subst (λ (g : Columns). Fits g.count d) gathers fits) (ltb (length ss) places) refl

@@ -8,7 +8,6 @@ use Rattle.node_rules.specs.Calls.{Outcome, outcome}
 use Rattle.node_rules.specs.Histories.{out_after}
 use Rattle.node.specs.Lent.{board_of}
 use Rattle.slot_records.specs.declared.Record.{Record}
-use Rattle.slot_records.specs.declared.starting.Started.{Started}
 
 abbrev pub node_in : Record → Node
 node_in r = record { id = r.id; state = r.state; automatic = r.automatic }
@@ -45,7 +44,3 @@ leaves_record refusal r slots out = record_result refusal r slots out
 
 abbrev pub initialises_record : Record → Slots → List ℕ → RecordResult
 initialises_record r slots out = record_result_of r slots out
-
--- The record that the by-value call sets.
-abbrev pub started_by : Record → Started → Record
-started_by r s = started r s.state s.written

@@ -1,109 +1,98 @@
-// Slots in four lists of numbers, and a call of the node on them.
-ghost use Rattle.std.specs.Prelude.{◌≡◌};
+// A list of slot records, taken apart into four lists of numbers and put together again, and a call of the node on them.
+ghost use Rattle.std.specs.Prelude.{◌≡◌, length};
 ghost use Rattle.node.specs.Answers.{leaves, performed};
-ghost use Rattle.slot_records.specs.Columns.{few, blank_of, placed, back as back_of, used, Fits};
+ghost use Rattle.slot_records.specs.Columns.{placed, back, used, gathered, scattered, Fits};
 
 use crate::Slot;
 use node::Answer;
 use node_rules::{Call, Node};
 
-// How many slots there are, and the numbers of the first 65, one more than a board may have, so that a longer list is seen.
+// One more than a board may have, so that a longer list is seen. Arrays of so many, since what C calls has no heap.
+const PLACES: usize = 65;
+
+// How many slots there are, and the numbers of the first of them.
 #[derive(Clone, Copy)]
 pub(crate) struct Columns {
     pub count: usize,
-    pub roles: [u8; 65],
-    pub events: [u64; 65],
-    pub statuses: [u8; 65],
-    pub marks: [u8; 65],
+    pub roles: [u8; PLACES],
+    pub events: [u64; PLACES],
+    pub statuses: [u8; PLACES],
+    pub marks: [u8; PLACES],
 }
 
-// A call's answer and the columns after it.
-#[derive(Clone, Copy)]
-pub(crate) struct Done {
-    pub answer: Answer,
-    pub columns: Columns,
-}
-
-pub(crate) fn blank(count: usize) -> Columns
-    ensures { result ≡ blank_of count }
-{
-    Columns {
-        count,
-        roles: [0; 65],
-        events: [0; 65],
-        statuses: [0; 65],
-        marks: [0; 65],
+impl Columns {
+    pub(crate) fn of(slots: &[Slot]) -> Columns
+        ensures { result ≡ gathered slots.now (length slots.now) }
+    {
+        let mut columns = Columns {
+            count: slots.len(),
+            roles: [0; PLACES],
+            events: [0; PLACES],
+            statuses: [0; PLACES],
+            marks: [0; PLACES],
+        };
+        for (i, slot) in slots.iter().enumerate() {
+            columns.place(i, *slot);
+        }
+        columns
     }
-}
 
-// The columns with slot i in its place.
-pub(crate) fn place(columns: Columns, i: usize, slot: Slot) -> Columns
-    ensures { result ≡ placed columns i slot }
-{
-    let mut next = columns;
-    if i < 65 {
-        next.roles[i] = slot.role;
-        next.events[i] = slot.event;
-        next.statuses[i] = slot.status;
-        next.marks[i] = slot.mark;
+    // Puts slot i in its place; beyond the places nothing changes.
+    fn place(&mut self, i: usize, slot: Slot)
+        ensures { self.new ≡ placed self.old i slot }
+    {
+        if i < PLACES {
+            self.roles[i] = slot.role;
+            self.events[i] = slot.event;
+            self.statuses[i] = slot.status;
+            self.marks[i] = slot.mark;
+        }
     }
-    next
-}
 
-// Slot i of the columns after a call; beyond them it is as it was.
-pub(crate) fn back(done: Done, i: usize, slot: Slot) -> Slot
-    ensures { result ≡ back_of done.columns i slot }
-{
-    let columns = done.columns;
-    if 65 <= i {
-        return slot;
+    // Any call of the node on the places that are used.
+    pub(crate) fn perform(&mut self, node: Node, call: Call, bytes: &[u8], out: &mut [u8]) -> Answer
+        ensures out_value { leaves result (used self.new) out.new ≡ performed node call bytes.now (used self.old) out.old }
+        ensures fits { Fits self.old.count self.new }
+    {
+        let n = self.count.min(PLACES);
+        // Lent as copies: what a part of an array behind a reference becomes is not proved.
+        let mut statuses = self.statuses;
+        let mut marks = self.marks;
+        let answer = node::perform(
+            node,
+            call,
+            bytes,
+            &self.roles[..n],
+            &self.events[..n],
+            &mut statuses[..n],
+            &mut marks[..n],
+            out,
+        );
+        self.statuses = statuses;
+        self.marks = marks;
+        answer
     }
-    Slot {
-        role: columns.roles[i],
-        event: columns.events[i],
-        status: columns.statuses[i],
-        mark: columns.marks[i],
+
+    pub(crate) fn put_back(&self, slots: &mut [Slot])
+        ensures { slots.new ≡ scattered slots.old self.now (length slots.old) }
+    {
+        for (i, slot) in slots.iter_mut().enumerate() {
+            *slot = self.back(i, *slot);
+        }
     }
-}
 
-// How many places are used.
-fn used_places(count: usize) -> usize
-    ensures { result ≡ few count }
-{
-    if count < 65 { count } else { 65 }
-}
-
-// Any call of the node on the places that are used.
-pub(crate) fn perform(
-    node: Node,
-    call: Call,
-    bytes: &[u8],
-    columns: Columns,
-    out: &mut [u8],
-) -> Done
-    ensures out_value { leaves result.answer (used result.columns) out.new ≡ performed node call bytes.now (used columns) out.old }
-    ensures fits { Fits columns.count result.columns }
-{
-    let roles = columns.roles;
-    let events = columns.events;
-    let mut statuses = columns.statuses;
-    let mut marks = columns.marks;
-    let n = used_places(columns.count);
-    let answer = node::perform(
-        node,
-        call,
-        bytes,
-        &roles[0..n],
-        &events[0..n],
-        &mut statuses[0..n],
-        &mut marks[0..n],
-        out,
-    );
-    let mut after = columns;
-    after.statuses = statuses;
-    after.marks = marks;
-    Done {
-        answer,
-        columns: after,
+    // Slot i of the columns; beyond them it is as it was.
+    fn back(&self, i: usize, slot: Slot) -> Slot
+        ensures { result ≡ back self.now i slot }
+    {
+        if PLACES <= i {
+            return slot;
+        }
+        Slot {
+            role: self.roles[i],
+            event: self.events[i],
+            status: self.statuses[i],
+            mark: self.marks[i],
+        }
     }
 }

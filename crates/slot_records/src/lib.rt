@@ -2,8 +2,6 @@
 #![tactic(auto)]
 
 mod columns;
-mod slots;
-mod starting;
 
 ghost use Rattle.std.specs.Prelude.{◌≡◌};
 ghost use Rattle.node.specs.Lent.{slots_of};
@@ -11,10 +9,12 @@ ghost use Rattle.node.specs.Answers.{leaves, performed};
 ghost use Rattle.slot_records.specs.Apart.{apart};
 ghost use Rattle.slot_records.specs.Records.{leaves_record, initialises_record};
 
+use crate::columns::Columns;
 use node::Answer;
 use node_rules::{Call, Node};
 use range::Block;
 
+// A slot as C lends it, `hrislanoth_slot`: its numbers are tested by the node, which refuses others.
 #[repr(C)]
 #[derive(Clone, Copy)]
 pub struct Slot {
@@ -37,12 +37,13 @@ pub struct Record {
 pub fn perform(node: Node, call: Call, bytes: &[u8], slots: &mut [Slot], out: &mut [u8]) -> Answer
     ensures { leaves result (apart slots.new) out.new ≡ performed node call bytes.now (apart slots.old) out.old }
 {
-    let taken = slots::gather(slots);
-    let done = columns::perform(node, call, bytes, taken, out);
-    slots::scatter(slots, done)
+    let mut columns = Columns::of(slots);
+    let answer = columns.perform(node, call, bytes, out);
+    columns.put_back(slots);
+    answer
 }
 
-// node::initialise on the node's own record: its state and the bytes written are set there, and the answer is the refusal or 0.
+// node::initialise on the node's own record: its state and the bytes written are set there, and the answer is the refusal or 0, the number in node::Answer.
 pub fn initialise_record(
     own: &mut Record,
     roles: &[u8],
@@ -53,8 +54,15 @@ pub fn initialise_record(
 ) -> u8
     ensures { leaves_record result own.new (slots_of roles.now events.now statuses.new marks.new) out.new ≡ initialises_record own.old (slots_of roles.now events.now statuses.old marks.old) out.old }
 {
-    let started = starting::start(*own, roles, events, statuses, marks, out);
-    own.state = started.state;
-    own.written = started.written;
-    started.refusal
+    let node = Node {
+        id: own.id,
+        state: own.state,
+        automatic: own.automatic,
+    };
+    let answer = node::initialise(node, roles, events, statuses, marks, out);
+    if answer.refusal == 0 {
+        own.state = answer.node.state;
+        own.written = answer.bytes;
+    }
+    answer.refusal
 }

@@ -1,17 +1,18 @@
 -- Pieces put into a buffer one after the other, and the text of numbers.
 use Prim.Native.Nat.{ℕ, zero, suc, ◌+◌, ◌-◌, ◌/◌, ◌%◌, ◌^◌, ◌≤◌, ◌<◌, min}
 use mathlib.Core.Path.{◌≡◌, refl, sym, ap, ap₂, ◌∙◌}
-use mathlib.Core.Bool.{Bool, true, false, cond}
-use mathlib.Core.List.{List, [], ◌∷◌, ◌++◌}
-use native.Mathlib.Nat.{zero-sub, suc-add, add-suc, add-zero, div-one, one-le-pow}
-use native.Mathlib.Numerals.{add-one}
+use mathlib.Core.Logic.{◌⊎◌, ⊎_elim}
+use mathlib.Core.Bool.{Bool, true, false, cond, ◌||◌}
+use mathlib.Core.List.{List, [], ◌∷◌, ◌++◌, append-nil}
+use native.Mathlib.Nat.{zero-sub, suc-add, add-suc, add-zero}
 use native.Mathlib.Omega.{arith}
-use borrow.Author.Tests.{leb-true, leb-false, le-leb, lt-leb}
-use lib.Dec.{leb, eqb-suc-zero, lit<}
-use lib.ListN.{length, get_or, take, drop, set, length-append, length-set, take-append-drop}
-use lib.Seq.{drop-nil, take_all, take-length, take-append_seam, set_split, drop-cons}
-use Rattle.text.specs.declared.Place.{Place}
-use Rattle.text.specs.Text.{filled_at, end_at, filled, end_of, within, digit, hex_digit, hex_of, decimal, decimal_up_to}
+use borrow.Author.Tests.{leb-true, leb-false, le-leb, lt-leb, ne_eqb}
+use lib.Dec.{eqb, leb}
+use lib.ListN.{length, get_or, take, drop, set, length-append, length-set, take-append-drop, drop_of_length-le}
+use lib.Seq.{drop-nil, take_all, take-length, take-append_seam, set_split}
+use Rattle.std.proofs.lemmas.List.{take_more}
+use Rattle.text.specs.declared.Page.{Page}
+use Rattle.text.specs.Text.{Place, filled_at, end_at, filled, end_of, within, place_of, wrote, digit, hex_digit, hex_of, decimal, decimal_up_to}
 
 -- ---- a buffer, byte by byte
 
@@ -61,9 +62,6 @@ filled_at_length zero (p ∷ ps) (x ∷ out) = ap length (filled_at_cons p ps x 
 
 end_at_le : (at : ℕ) (piece out : List ℕ) → end_at at piece out ≤ length out
 end_at_le at piece out = omega (arith, end_at_min at piece out)
-
-pub end_within : (r at : ℕ) (piece out : List ℕ) → r ≡ end_at at piece out → r ≤ length out
-end_within r at piece out e = omega (arith, e, end_at_le at piece out)
 
 filled_at_byte : (at b : ℕ) (out : List ℕ) → at < length out → filled_at at (b ∷ []) out ≡ set out at b
 unfolding filled_at
@@ -146,142 +144,158 @@ pub end_le : (p : Place) (piece out : List ℕ) → (end_of p piece out).at ≤ 
 unfolding end_of
 end_le p piece out = end_at_le p.at (drop p.skip piece) out
 
--- ---- one byte
+-- ---- on a page
 
-module _ (p : Place) (b : ℕ) (out : List ℕ) where
+module _ (p : Page) (piece : List ℕ) where
+  -- A page is known by its place and its text.
+  wrote_is : {skip at : ℕ} {text : List ℕ} → ◌≡◌ {A = Place} (record { skip = skip; at = at }) (end_of (place_of p) piece p.text.now)
+      → text ≡ filled (place_of p) piece p.text.now → ◌≡◌ {A = Page} (record { skip = skip; at = at; text = record p.text { now = text } }) (wrote p piece)
+  unfolding wrote
+  wrote_is e f = λ i. record { skip = (e i).skip; at = (e i).at; text = record p.text { now = f i } }
+
+  wrote_inside : (wrote p piece).at ≤ length (wrote p piece).text.now
+  unfolding wrote
+  wrote_inside = omega (arith, end_le (place_of p) piece p.text.now, filled_length (place_of p) piece p.text.now)
+
+-- Two pieces in a row are one.
+pub wrote_next : (p : Page) (xs ys : List ℕ) → wrote (wrote p xs) ys ≡ wrote p (xs ++ ys)
+unfolding wrote
+wrote_next p xs ys =
+    let out = p.text.now in
+    let end = end_next (place_of p) xs ys out in
+    let text = filled_next (place_of p) xs ys out in
+    λ i. record { skip = (end i).skip; at = (end i).at; text = record p.text { now = text i } }
+
+-- Without a piece a place past the end is the end.
+pub wrote_none : (p : Page) {at : ℕ} → at ≡ min p.at (length p.text.now) → ◌≡◌ {A = Page} (record { skip = p.skip; at = at; text = p.text }) (wrote p [])
+wrote_none p {at} e =
+    let place : at ≡ cond (leb p.at (length p.text.now)) p.at (length p.text.now) = omega (arith, e, least p.at (length p.text.now)) in
+    wrote_is p [] ((λ i. record { skip = p.skip; at = place i }) ∙ sym (end_none (place_of p) p.text.now)) (sym (filled_none (place_of p) p.text.now))
+
+-- ---- what is still to be put on a page
+
+-- To put the rest on the page that it is by now gives what the whole gives on the page that it was.
+pub record Remains (p : Page) (piece : List ℕ) (q : Page) (rest : List ℕ) : Type 0 where
+  pub inside : q ≡ wrote q []
+  pub after : wrote q rest ≡ wrote p piece
+
+pub remains_all : (p : Page) (piece : List ℕ) → p.at ≤ length p.text.now → Remains p piece p piece
+remains_all p piece h = record { inside = wrote_none p (omega (arith, h)); after = refl }
+
+module _ {p q : Page} {piece : List ℕ} where
+  pub remains_next : (xs : List ℕ) {ys : List ℕ} {r : Page} → Remains p piece q (xs ++ ys) → r ≡ wrote q xs → Remains p piece r ys
+  remains_next xs {ys} d e = record {
+    inside = e ∙ ap (wrote q) (sym (append-nil xs)) ∙ sym (wrote_next q xs []) ∙ ap (λ (x : Page). wrote x []) (sym e);
+    after = ap (λ (x : Page). wrote x ys) e ∙ wrote_next q xs ys ∙ d.after;
+  }
+
+  -- A page whose place is within the buffer is as good as the page itself.
+  pub remains_start : q ≡ wrote p [] → Remains p piece q piece
+  remains_start e = record {
+    inside = e ∙ sym (wrote_next p [] []) ∙ ap (λ (x : Page). wrote x []) (sym e);
+    after = ap (λ (x : Page). wrote x piece) e ∙ wrote_next p [] piece;
+  }
+
+  pub remains_none : Remains p piece q [] → q ≡ wrote p piece
+  remains_none d = d.inside ∙ d.after
+
+-- ---- one byte, from a place within the buffer on
+
+module _ (p q : Page) (b : ℕ) (e : q ≡ wrote p []) where
+  inside : q.at ≤ length q.text.now
+  inside = rw e (wrote_inside p [])
+
+  from_q : {r : Page} → r ≡ wrote q (b ∷ []) → r ≡ wrote p (b ∷ [])
+  from_q f = f ∙ ap (λ (x : Page). wrote x (b ∷ [])) e ∙ wrote_next p [] (b ∷ [])
+
   -- It is left out.
-  pub byte_skipped : 0 < p.skip → (within (record { skip = p.skip - 1; at = p.at }) (length out) ≡ end_of p (b ∷ []) out) × (out ≡ filled p (b ∷ []) out)
+  pub byte_skipped : 0 < q.skip → record q { skip = q.skip - 1 } ≡ wrote p (b ∷ [])
   unfolding filled end_of
-  byte_skipped h = go p.skip h
+  byte_skipped h = from_q (wrote_is q (b ∷ []) (λ i. record { skip = q.skip - 1; at = place i }) text)
     where
-      go : (s : ℕ) → 0 < s → (◌≡◌ {A = Place} (record { skip = s - 1; at = (within p (length out)).at }) (record { skip = s - 1; at = end_at p.at (drop s (b ∷ [])) out })) × (out ≡ filled_at p.at (drop s (b ∷ [])) out)
-      go zero h = absurd (omega (arith, h))
-      go (suc s) h =
-          let none = drop-nil s in (
-            λ i. record { skip = suc s - 1; at = (sym (end_at_none p.at out) ∙ ap (λ (l : List ℕ). end_at p.at l out) (sym none)) i },
-            sym (filled_at_none p.at out) ∙ ap (λ (l : List ℕ). filled_at p.at l out) (sym none),
-          )
+      none : drop q.skip (b ∷ []) ≡ []
+      none = drop_of_length-le (b ∷ []) {i = q.skip} h
+
+      place : q.at ≡ end_at q.at (drop q.skip (b ∷ [])) q.text.now
+      place = omega (arith, inside, end_at_min q.at [] q.text.now, ap (λ (l : List ℕ). end_at q.at l q.text.now) none)
+
+      text : q.text.now ≡ filled_at q.at (drop q.skip (b ∷ [])) q.text.now
+      text = sym (filled_at_none q.at q.text.now) ∙ ap (λ (l : List ℕ). filled_at q.at l q.text.now) (sym none)
 
   -- It is put in.
-  pub byte_put : p.skip ≡ 0 → p.at < length out
-      → (◌≡◌ {A = Place} (record { skip = p.skip; at = p.at + 1 }) (end_of p (b ∷ []) out)) × (set out p.at b ≡ filled p (b ∷ []) out)
+  pub byte_put : q.skip ≡ 0 → q.at < length q.text.now
+      → ◌≡◌ {A = Page} (record { skip = q.skip; at = q.at + 1; text = record q.text { now = set q.text.now q.at b } }) (wrote p (b ∷ []))
   unfolding filled end_of
-  byte_put z h =
-      let no_more : p.skip ≡ p.skip - 1 = omega (arith, z) in
-      let whole : drop p.skip (b ∷ []) ≡ b ∷ [] = ap (λ (n : ℕ). drop n (b ∷ [])) z in
-      let place : p.at + 1 ≡ end_at p.at (b ∷ []) out = omega (arith, h, end_at_min p.at (b ∷ []) out) in (
-        λ i. record { skip = no_more i; at = (place ∙ ap (λ (l : List ℕ). end_at p.at l out) (sym whole)) i },
-        sym (filled_at_byte p.at b out h) ∙ ap (λ (l : List ℕ). filled_at p.at l out) (sym whole),
-      )
+  byte_put z h = from_q (wrote_is q (b ∷ []) (λ i. record { skip = no_more i; at = place i }) text)
+    where
+      no_more : q.skip ≡ q.skip - 1
+      no_more = omega (arith, z)
+
+      whole : drop q.skip (b ∷ []) ≡ b ∷ []
+      whole = ap (λ (n : ℕ). drop n (b ∷ [])) z
+
+      place : q.at + 1 ≡ end_at q.at (drop q.skip (b ∷ [])) q.text.now
+      place = omega (arith, h, end_at_min q.at (b ∷ []) q.text.now, ap (λ (l : List ℕ). end_at q.at l q.text.now) whole)
+
+      text : set q.text.now q.at b ≡ filled_at q.at (drop q.skip (b ∷ [])) q.text.now
+      text = sym (filled_at_byte q.at b q.text.now h) ∙ ap (λ (l : List ℕ). filled_at q.at l q.text.now) (sym whole)
 
   -- It does not fit.
-  pub byte_past : p.skip ≡ 0 → length out ≤ p.at
-      → (◌≡◌ {A = Place} (record { skip = p.skip; at = length out }) (end_of p (b ∷ []) out)) × (out ≡ filled p (b ∷ []) out)
+  pub byte_past : q.skip ≡ 0 → length q.text.now ≤ q.at → q ≡ wrote p (b ∷ [])
   unfolding filled end_of
-  byte_past z h =
-      let no_more : p.skip ≡ p.skip - 1 = omega (arith, z) in
-      let place : length out ≡ end_at p.at (drop p.skip (b ∷ [])) out = omega (arith, h, end_at_min p.at (drop p.skip (b ∷ [])) out) in (
-        λ i. record { skip = no_more i; at = place i },
-        sym (filled_at_past p.at (drop p.skip (b ∷ [])) out h),
-      )
-
--- ---- what is still to be put in
-
--- To put the rest in from next on gives what the whole piece gives from the first place on.
-pub record Remains (at : Place) (piece start : List ℕ) (next : Place) (rest out : List ℕ) : Type 0 where
-  pub inside : next.at ≤ length out
-  pub place : end_of next rest out ≡ end_of at piece start
-  pub bytes : filled next rest out ≡ filled at piece start
-
-pub remains_first : (at : Place) (xs ys start : List ℕ) {next : Place} {out : List ℕ}
-    → next ≡ end_of at xs start → out ≡ filled at xs start → Remains at (xs ++ ys) start next ys out
-remains_first at xs ys start e f = record {
-  inside = rw (e, f, filled_length at xs start) (end_le at xs start);
-  place = ap₂ (λ (n : Place) (l : List ℕ). end_of n ys l) e f ∙ end_next at xs ys start;
-  bytes = ap₂ (λ (n : Place) (l : List ℕ). filled n ys l) e f ∙ filled_next at xs ys start;
-}
-
-pub remains_all : (at : Place) (piece start : List ℕ) {next : Place}
-    → next ≡ within at (length start) → Remains at piece start next piece start
-remains_all at piece start e = remains_first at [] piece start (e ∙ sym (end_none at start)) (sym (filled_none at start))
-
--- A place within the buffer is as good as the place itself.
-pub remains_start : (at : Place) (piece start : List ℕ) {next : Place} → next ≡ within at (length start) → Remains next piece start next piece start
-remains_start at piece start e = record { inside = (remains_all at piece start e).inside; place = refl; bytes = refl }
-
-pub from_within : (at : Place) (piece start : List ℕ) {first next : Place} {out : List ℕ} → first ≡ within at (length start)
-    → (next ≡ end_of first piece start) × (out ≡ filled first piece start) → (next ≡ end_of at piece start) × (out ≡ filled at piece start)
-from_within at piece start e d = let r = remains_all at piece start e in (d.0 ∙ r.place, d.1 ∙ r.bytes)
-
-module _ {at : Place} {piece start : List ℕ} {next : Place} {out : List ℕ} where
-  pub remains_next : (xs : List ℕ) {ys : List ℕ} {next' : Place} {out' : List ℕ} → Remains at piece start next (xs ++ ys) out
-      → next' ≡ end_of next xs out → out' ≡ filled next xs out → Remains at piece start next' ys out'
-  remains_next xs {ys} r e f =
-      let s = remains_first next xs ys out e f in
-      record { inside = s.inside; place = s.place ∙ r.place; bytes = s.bytes ∙ r.bytes }
-
-  pub remains_last : {rest : List ℕ} {next' : Place} {out' : List ℕ} → Remains at piece start next rest out
-      → next' ≡ end_of next rest out → out' ≡ filled next rest out → (next' ≡ end_of at piece start) × (out' ≡ filled at piece start)
-  remains_last r e f = (e ∙ r.place, f ∙ r.bytes)
-
-  pub remains_none : Remains at piece start next [] out → (next ≡ end_of at piece start) × (out ≡ filled at piece start)
-  remains_none r = remains_last r (sym (end_none next out ∙ stays)) (sym (filled_none next out))
+  byte_past z h = from_q (wrote_is q (b ∷ []) (λ i. record { skip = no_more i; at = place i }) text)
     where
-      stays : within next (length out) ≡ next
-      stays = λ i. record { skip = next.skip; at = ap (λ (t : Bool). cond t next.at (length out)) (le-leb next.at (length out) r.inside) i }
+      no_more : q.skip ≡ q.skip - 1
+      no_more = omega (arith, z)
 
-  pub remains_length : {rest : List ℕ} → Remains at piece start next rest out → length out ≡ length start
-  remains_length {rest} r = sym (filled_length next rest out) ∙ ap length r.bytes ∙ filled_length at piece start
+      place : q.at ≡ end_at q.at (drop q.skip (b ∷ [])) q.text.now
+      place = omega (arith, inside, h, end_at_min q.at (drop q.skip (b ∷ [])) q.text.now)
+
+      text : q.text.now ≡ filled_at q.at (drop q.skip (b ∷ [])) q.text.now
+      text = sym (filled_at_past q.at (drop q.skip (b ∷ [])) q.text.now h)
 
 -- ---- loops over a piece, over bytes and over the places of a number
 
-pub rest_cons : (l : List ℕ) (i : ℕ) → i < length l → drop i l ≡ get_or l i 0 ∷ drop (i + 1) l
-rest_cons l i h = drop-cons l i 0 h ∙ ap (λ (n : ℕ). get_or l i 0 ∷ drop n l) (sym (add-one i))
+pub piece_next : (p : Page) (l : List ℕ) (i : ℕ) {q r : Page} → i < length l → q ≡ wrote p (take i l) → r ≡ wrote q (get_or l i 0 ∷ []) → r ≡ wrote p (take (i + 1) l)
+piece_next p l i h e f =
+    f ∙ ap (λ (x : Page). wrote x (get_or l i 0 ∷ [])) e ∙ wrote_next p (take i l) (get_or l i 0 ∷ []) ∙ ap (wrote p) (sym (take_more l i 0 h))
+
+hex_of_append : (xs ys : List ℕ) → hex_of (xs ++ ys) ≡ hex_of xs ++ hex_of ys
+hex_of_append [] ys = refl
+hex_of_append (x ∷ xs) ys = ap (λ (l : List ℕ). hex_digit (x / 16) ∷ (hex_digit (x % 16) ∷ l)) (hex_of_append xs ys)
 
 -- The two digits of one more byte are put in.
-pub hex_next : {at : Place} {piece start : List ℕ} {next : Place} {out : List ℕ} (bytes : List ℕ) (i : ℕ) {high low : ℕ} {middle last : Place} {mid out' : List ℕ}
-    → i < length bytes → Remains at piece start next (hex_of (drop i bytes)) out
-    → high ≡ hex_digit (get_or bytes i 0 / 16) → middle ≡ end_of next (high ∷ []) out → mid ≡ filled next (high ∷ []) out
-    → low ≡ hex_digit (get_or bytes i 0 % 16) → last ≡ end_of middle (low ∷ []) mid → out' ≡ filled middle (low ∷ []) mid
-    → Remains at piece start last (hex_of (drop (i + 1) bytes)) out'
-hex_next bytes i {high} {low} h r eh e₁ f₁ el e₂ f₂ =
-    let two : hex_of (drop i bytes) ≡ high ∷ (low ∷ hex_of (drop (i + 1) bytes)) = rw (eh, el) (ap hex_of (rest_cons bytes i h)) in
-    remains_next (low ∷ []) (remains_next (high ∷ []) (rw two at r) e₁ f₁) e₂ f₂
+pub hex_next : (p : Page) (bytes : List ℕ) (i : ℕ) {high low : ℕ} {q middle r : Page} → i < length bytes → q ≡ wrote p (hex_of (take i bytes))
+    → high ≡ hex_digit (get_or bytes i 0 / 16) → middle ≡ wrote q (high ∷ [])
+    → low ≡ hex_digit (get_or bytes i 0 % 16) → r ≡ wrote middle (low ∷ []) → r ≡ wrote p (hex_of (take (i + 1) bytes))
+hex_next p bytes i {high} {low} {q} h e eh f el g =
+    let b = get_or bytes i 0 in
+    let digits : hex_of (take (i + 1) bytes) ≡ hex_of (take i bytes) ++ (high ∷ (low ∷ [])) =
+    rw (eh, el) (ap hex_of (take_more bytes i 0 h) ∙ hex_of_append (take i bytes) (b ∷ [])) in
+    g ∙ ap (λ (x : Page). wrote x (low ∷ [])) f ∙ wrote_next q (high ∷ []) (low ∷ []) ∙ ap (λ (x : Page). wrote x (high ∷ (low ∷ []))) e
+    ∙ wrote_next p (hex_of (take i bytes)) (high ∷ (low ∷ [])) ∙ ap (wrote p) (sym digits)
 
--- A place is a power of ten.
-decimal_next : (w n : ℕ) {place : ℕ} → place ≡ 10 ^ w → 1 < place
-    → (v : ℕ) × (place / 10 ≡ 10 ^ v) × (decimal_up_to (suc w) n ≡ cond (leb place n) (digit (n / place % 10) ∷ []) [] ++ decimal_up_to (suc v) n)
+module _ {p q : Page} (n w : ℕ) {place : ℕ} (some : 0 < w) (power : place ≡ 10 ^ (w - 1)) (d : Remains p (decimal n) q (decimal_up_to w n)) where
+  digits : decimal_up_to w n ≡ cond (eqb (w - 1) 0 || leb place n) (digit (n / place % 10) ∷ []) [] ++ decimal_up_to (w - 1) n
+  unfolding decimal_up_to
+  digits = rw power (go w some)
+    where
+      go : (v : ℕ) → 0 < v → decimal_up_to v n ≡ cond (eqb (v - 1) 0 || leb (10 ^ (v - 1)) n) (digit (n / 10 ^ (v - 1) % 10) ∷ []) [] ++ decimal_up_to (v - 1) n
+      go zero h = absurd (omega (arith, h))
+      go (suc v) h = let one_less : suc v - 1 ≡ v = omega arith in rw one_less
+
+  pub digits_skip : (0 < w - 1) × (n < place) → Remains p (decimal n) q (decimal_up_to (w - 1) n)
+  digits_skip h = rw (digits, ne_eqb (w - 1) 0 (λ e. omega (arith, e, h.0)), lt-leb place n h.1) at d
+
+  pub digits_next : {r : Page} → (w - 1 ≡ 0) ⊎ ((w - 1 ≡ 0 → ⊥) × (place ≤ n)) → r ≡ wrote q (digit (n / place % 10) ∷ []) → Remains p (decimal n) r (decimal_up_to (w - 1) n)
+  digits_next h f =
+      let test : (eqb (w - 1) 0 || leb place n) ≡ true = ⊎_elim (λ e. rw e) (λ l. rw (le-leb place n l.1) (or_true (eqb (w - 1) 0))) h in
+      remains_next (digit (n / place % 10) ∷ []) (rw (digits, test) at d) f
+    where
+      or_true : (t : Bool) → (t || true) ≡ true
+      or_true true = refl
+      or_true false = refl
+
+pub digits_none : {p q : Page} (n w : ℕ) → w ≤ 0 → Remains p (decimal n) q (decimal_up_to w n) → q ≡ wrote p (decimal n)
 unfolding decimal_up_to
-decimal_next zero n e h = absurd (omega (arith, e, h))
-decimal_next (suc w) n e h = (w, omega (arith, e), rw (e, eqb-suc-zero w))
-
-decimal_last : (w n : ℕ) {place : ℕ} → place ≡ 10 ^ w → place ≤ 1 → decimal_up_to (suc w) n ≡ digit (n % 10) ∷ []
-unfolding decimal_up_to
-decimal_last zero n e h = ap (λ (d : ℕ). digit (d % 10) ∷ []) (div-one n)
-decimal_last (suc w) n e h = absurd (omega (arith, e, h, one-le-pow w 10 (lit< tt)))
-
--- The digits of n from a place on are still to be put in.
-pub record Digits (at : Place) (start : List ℕ) (n : ℕ) (next : Place) (place : ℕ) (out : List ℕ) : Type 0 where
-  pub w : ℕ
-  pub power : place ≡ 10 ^ w
-  pub rest : Remains at (decimal n) start next (decimal_up_to (suc w) n) out
-
-pub digits_all : {at : Place} {start : List ℕ} {n : ℕ} {next : Place} {out : List ℕ}
-    → Remains at (decimal n) start next (decimal n) out → Digits at start n next (10 ^ 19) out
-digits_all r = record { w = 19; power = refl; rest = r }
-
-module _ {at : Place} {start : List ℕ} {n : ℕ} {next : Place} {place : ℕ} {out : List ℕ} (d : Digits at start n next place out) where
-  pub digits_skip : 1 < place → n < place → Digits at start n next (place / 10) out
-  digits_skip h g =
-      let (w, e, l) = decimal_next d.w n d.power h in
-      record { w = w; power = e; rest = rw (l, lt-leb place n g) at d.rest }
-
-  pub digits_next : {next' : Place} {out' : List ℕ} → 1 < place → place ≤ n
-      → next' ≡ end_of next (digit (n / place % 10) ∷ []) out → out' ≡ filled next (digit (n / place % 10) ∷ []) out
-      → Digits at start n next' (place / 10) out'
-  digits_next h g e₁ f₁ =
-      let (w, e, l) = decimal_next d.w n d.power h in
-      record { w = w; power = e; rest = remains_next (digit (n / place % 10) ∷ []) (rw (l, le-leb place n g) at d.rest) e₁ f₁ }
-
-  pub digits_last : place ≤ 1 → Remains at (decimal n) start next (digit (n % 10) ∷ []) out
-  digits_last h = rw (decimal_last d.w n d.power h) at d.rest
+digits_none n w h d = let none : w ≡ 0 = omega (arith, h) in remains_none (rw none at d)

@@ -8,24 +8,29 @@ use borrow.Author.Tests.{ltb-true}
 use lib.Dec.{ltb}
 use lib.ListN.{length, take, drop, length-take, length-drop, take-append-drop, drop_of_length-le}
 use lib.Seq.{take_all, drop-drop}
-use Rattle.text.specs.declared.Place.{Place}
-use Rattle.text.specs.Text.{filled_at, end_at, filled, end_of, laid_over}
+use Rattle.text.specs.declared.Page.{Page}
+use Rattle.text.specs.Text.{filled_at, end_at, filled, end_of, wrote, laid_over}
 use Rattle.text.specs.Parts.{part_size, part_from, parts_from}
 use Rattle.text.proofs.Lengths.{filled_front, end_front}
 
 -- ---- from a byte on
 
--- A text is put in at a buffer's start, its first bytes left out.
-abbrev pub Puts : ℕ → List ℕ → List ℕ → Place → List ℕ → Type 0
-Puts skip text out end out' = let first : Place = record { skip = skip; at = 0 } in (end ≡ end_of first text out) × (out' ≡ filled first text out)
+-- What a page from a buffer's start on is after a text.
+module _ (page : Page) (text : List ℕ) where
+  pub wrote_at : page.at ≡ 0 → (wrote page text).at ≡ end_at 0 (drop page.skip text) page.text.now
+  unfolding wrote end_of
+  wrote_at z = ap (λ (n : ℕ). end_at n (drop page.skip text) page.text.now) z
 
-pub put_from : (skip : ℕ) (out : List ℕ) {piece text : List ℕ} {end : Place} {out' : List ℕ} → piece ≡ text → Puts skip piece out end out'
-    → (end.at ≡ end_at 0 (drop skip text) out) × (out' ≡ filled_at 0 (drop skip text) out)
-unfolding filled end_of
-put_from skip out e p = (
-  ap (λ (n : Place). n.at) p.0 ∙ ap (λ (l : List ℕ). end_at 0 (drop skip l) out) e,
-  p.1 ∙ ap (λ (l : List ℕ). filled_at 0 (drop skip l) out) e,
-)
+  pub wrote_text : page.at ≡ 0 → (wrote page text).text.now ≡ filled_at 0 (drop page.skip text) page.text.now
+  unfolding wrote filled
+  wrote_text z = ap (λ (n : ℕ). filled_at n (drop page.skip text) page.text.now) z
+
+  pub wrote_name : (wrote page text).text.ghost_name ≡ page.text.ghost_name
+  unfolding wrote
+  wrote_name = refl
+
+-- What a function that makes a page and puts a text on it needs.
+pub ruleset page_ends = (wrote_at, wrote_text, wrote_name)
 
 -- ---- a part
 

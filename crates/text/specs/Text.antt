@@ -2,7 +2,12 @@
 use Rattle.std.specs.Prelude.{ℕ, zero, suc, ◌+◌, ◌-◌, ◌/◌, ◌%◌, ◌^◌, cond, ◌||◌, List, [], ◌∷◌, ◌++◌, eqb, leb, ltb, length, take, drop}
 use Prim.Native.Char.{code}
 use Prim.Native.String.{String, [] as none, ◌∷◌ as ◌then◌}
-use Rattle.text.specs.declared.Place.{Place}
+use Rattle.text.specs.declared.Page.{Page}
+
+-- How many bytes of the text are left out first, and where the next byte stands.
+pub record Place : Type 0 where
+  pub skip : ℕ
+  pub at : ℕ
 
 -- A buffer with a piece put in from a place on, as much of it as fits.
 unfoldable pub filled_at : ℕ → List ℕ → List ℕ → List ℕ
@@ -18,6 +23,15 @@ filled p piece out = filled_at p.at (drop p.skip piece) out
 
 unfoldable pub end_of : Place → List ℕ → List ℕ → Place
 end_of p piece out = record { skip = p.skip - length piece; at = end_at p.at (drop p.skip piece) out }
+
+abbrev pub place_of : Page → Place
+place_of page = record { skip = page.skip; at = page.at }
+
+-- A page after a piece: the same buffer lent, filled from the page's place on.
+unfoldable pub wrote : Page → List ℕ → Page
+wrote page piece =
+    let end = end_of (place_of page) piece page.text.now in
+    record { skip = end.skip; at = end.at; text = record page.text { now = filled (place_of page) piece page.text.now } }
 
 -- A piece over the buffer's first bytes, the others as they were.
 unfoldable pub laid_over : List ℕ → List ℕ → List ℕ
@@ -64,3 +78,8 @@ new_line = 10 ∷ []
 -- Document 01, "Trial program".
 abbrev pub bad_file : List ℕ
 bad_file = ascii "bad file\n"
+
+-- A dash stands for a text of nothing.
+abbrev pub or_dash : List ℕ → List ℕ
+or_dash [] = 45 ∷ []
+or_dash (x ∷ xs) = x ∷ xs

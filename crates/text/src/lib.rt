@@ -1,93 +1,80 @@
-// Text put into a lent buffer from a place on, as much of it as fits; each call answers the place after it.
-// A place also says how many bytes of the text are left out first, so that a long text can be had in parts.
+// Text put into a lent buffer from a place on, as much of it as fits.
+// A page also says how many bytes of the text are left out first, so that a long text can be had in parts.
 #![tactic(auto)]
 
 ghost use Rattle.std.specs.Prelude.{◌≡◌, [], ◌∷◌, ◌<◌};
-ghost use Rattle.text.specs.Text.{filled, end_of, within, hex_digit, decimal, hex_of};
+ghost use Rattle.text.specs.Text.{wrote, hex_digit, decimal, hex_of, or_dash};
 
-#[derive(Clone, Copy)]
-pub struct Place {
+#[derive(Drop)]
+pub struct Page<'a> {
     pub skip: usize,
     pub at: usize,
+    pub text: &'a mut [u8],
 }
 
-// The bytes of a piece.
-pub fn put(piece: &[u8], at: Place, out: &mut [u8]) -> Place
-    ensures value { result ≡ end_of at piece.now out.old }
-    ensures out_after { out.new ≡ filled at piece.now out.old }
-{
-    let mut next = start(at, out.len());
-    let mut i = 0;
-    while i < piece.len() {
-        next = put_byte(piece[i], next, out);
-        i += 1;
-    }
-    next
-}
-
-// A number in decimal, without leading zeros.
-pub fn put_decimal(n: u64, at: Place, out: &mut [u8]) -> Place
-    ensures value { result ≡ end_of at (decimal n) out.old }
-    ensures out_after { out.new ≡ filled at (decimal n) out.old }
-{
-    let mut next = start(at, out.len());
-    let mut place: u64 = 10_000_000_000_000_000_000;
-    while 1 < place {
-        let this = place;
-        place /= 10;
-        if n < this {
-            continue;
+impl<'a> Page<'a> {
+    // The bytes of a piece.
+    pub fn put(&mut self, piece: &[u8])
+        ensures { self.new ≡ wrote self.old piece.now }
+    {
+        self.stay_within();
+        for b in piece {
+            self.put_byte(*b);
         }
-        next = put_byte(48 + (n / this % 10) as u8, next, out);
     }
-    put_byte(48 + (n % 10) as u8, next, out)
-}
 
-// Bytes in upper-case hexadecimal.
-pub fn put_hex(bytes: &[u8], at: Place, out: &mut [u8]) -> Place
-    ensures value { result ≡ end_of at (hex_of bytes.now) out.old }
-    ensures out_after { out.new ≡ filled at (hex_of bytes.now) out.old }
-{
-    let mut next = start(at, out.len());
-    let mut i = 0;
-    while i < bytes.len() {
-        let b = bytes[i];
-        let middle = put_byte(hex_digit(b / 16), next, out);
-        next = put_byte(hex_digit(b % 16), middle, out);
-        i += 1;
+    // A number in decimal, without leading zeros.
+    pub fn put_decimal(&mut self, n: u64)
+        ensures { self.new ≡ wrote self.old (decimal n) }
+    {
+        self.stay_within();
+        for w in (0..20).rev() {
+            let place = 10u64.pow(w);
+            if w == 0 || place <= n {
+                self.put_byte(48 + (n / place % 10) as u8);
+            }
+        }
     }
-    next
-}
 
-fn start(p: Place, room: usize) -> Place
-    ensures { result ≡ within p room }
-{
-    let at = p.at;
-    if at <= room {
-        return p;
+    // Bytes in upper-case hexadecimal.
+    pub fn put_hex(&mut self, bytes: &[u8])
+        ensures { self.new ≡ wrote self.old (hex_of bytes.now) }
+    {
+        self.stay_within();
+        for b in bytes {
+            self.put_byte(hex_digit(b / 16));
+            self.put_byte(hex_digit(b % 16));
+        }
     }
-    Place {
-        skip: p.skip,
-        at: room,
-    }
-}
 
-fn put_byte(b: u8, p: Place, out: &mut [u8]) -> Place
-    ensures value { result ≡ end_of p (b ∷ []) out.old }
-    ensures out_after { out.new ≡ filled p (b ∷ []) out.old }
-{
-    let skip = p.skip;
-    let at = p.at;
-    if 0 < skip {
-        return start(Place { skip: skip - 1, at }, out.len());
+    // The same, and a dash where there are none.
+    pub fn put_hex_or_dash(&mut self, bytes: &[u8])
+        ensures { self.new ≡ wrote self.old (or_dash (hex_of bytes.now)) }
+    {
+        if bytes.is_empty() {
+            self.put(b"-");
+        } else {
+            self.put_hex(bytes);
+        }
     }
-    if at < out.len() {
-        out[at] = b;
-        return Place { skip, at: at + 1 };
+
+    // A place past the end is the end.
+    fn stay_within(&mut self)
+        ensures { self.new ≡ wrote self.old [] }
+    {
+        self.at = self.at.min(self.text.len());
     }
-    Place {
-        skip,
-        at: out.len(),
+
+    fn put_byte(&mut self, b: u8)
+        ensures { self.new ≡ wrote self.old (b ∷ []) }
+    {
+        self.stay_within();
+        if 0 < self.skip {
+            self.skip -= 1;
+        } else if self.at < self.text.len() {
+            self.text[self.at] = b;
+            self.at += 1;
+        }
     }
 }
 

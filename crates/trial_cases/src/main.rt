@@ -5,52 +5,37 @@ use std::io::Read;
 use std::rt::Files;
 use std::{fs, io, str};
 
-const MOST: usize = 65537;
-
-const NEW_LINE: u8 = 10;
-
 fn main(rt: HostRuntime) -> io::Result<()> {
-    let mut names = [0u8; 65536];
+    let mut names = [0; 65536];
     let length = streams::read_full(&mut rt.stdin(), &mut names);
-    each_name(&rt, &names[0..length])
+    each_name(&rt, &names[..length])
 }
 
+// A name that no new line ends is left out.
 fn each_name(rt: &(impl Files + Print), names: &[u8]) -> io::Result<()> {
-    let mut start = 0;
-    let mut i = 0;
-    while i < names.len() {
-        let at = i;
-        i += 1;
-        if names[at] != NEW_LINE {
-            continue;
+    for line in names.split_inclusive(|b| *b == b'\n') {
+        if let Some(name) = line.strip_suffix(b"\n") {
+            rt.write_all(line)?;
+            named(rt, name)?;
         }
-        named(rt, &names[start..at])?;
-        start = i;
     }
     Ok(())
 }
 
 fn named(rt: &(impl Files + Print), name: &[u8]) -> io::Result<()> {
-    say(rt, name)?;
-    say(rt, b"\n")?;
     // A path is UTF-8 here.
     let Ok(path) = str::from_utf8(name) else {
-        return say(rt, b"no such file\n");
+        return println!(rt; "no such file");
     };
     match fs::open(rt, path) {
-        Ok(mut f) => run(rt, &mut f),
-        Err(_) => say(rt, b"no such file\n"),
+        Ok(mut file) => run(rt, &mut file),
+        Err(_) => println!(rt; "no such file"),
     }
 }
 
 fn run(rt: &impl Print, reader: &mut impl Read) -> io::Result<()> {
-    let mut file = [0u8; MOST];
-    let length = streams::read_full(reader, &mut file);
-    let mut text = [0u8; 65536];
-    let end = replay::whole(&file[0..length], &mut text);
-    say(rt, &text[0..end])
-}
-
-fn say(rt: &impl Print, t: &[u8]) -> io::Result<()> {
-    rt.write_all(t)
+    let file = streams::Input::read(reader);
+    let mut text = [0; 65536];
+    let end = replay::whole(file.bytes(), &mut text);
+    rt.write_all(&text[..end])
 }

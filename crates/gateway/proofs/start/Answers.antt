@@ -20,9 +20,9 @@ by_count : (ports r : ℕ) (bad : Bool) → bad_ports ports ≡ bad → tested p
 unfolding start
 by_count ports r bad e = ap (tested ports r) (sym e)
 
-begun : (n ports r : ℕ) {b : Box} → b ≡ record { gate = start_of ports r; index = index_of [] }
-    → ◌≡◌ {A = Seen} (record { refusal = n; sent = 0; gate = b.gate; index = b.index }) (seen_of (index_of []) (starting n (start_of ports r)))
-begun n ports r e = λ i. record { refusal = n; sent = sym (nobody 8) i; gate = (e i).gate; index = (ap (λ (b : Box). b.index) e ∙ sym (either (eqb n 0))) i }
+begun : (n ports r : ℕ) {k : ℕ} {b : Box} → k ≡ n → b ≡ record { gate = start_of ports r; index = index_of [] }
+    → ◌≡◌ {A = Seen} (record { refusal = k; sent = 0; gate = b.gate; index = b.index }) (seen_of (index_of []) (starting n (start_of ports r)))
+begun n ports r h e = λ i. record { refusal = h i; sent = sym (nobody 8) i; gate = (e i).gate; index = (ap (λ (b : Box). b.index) e ∙ sym (either (eqb n 0))) i }
   where
     either : (y : Bool) → cond y (index_of []) (index_of []) ≡ index_of []
     either true = refl
@@ -31,9 +31,9 @@ begun n ports r e = λ i. record { refusal = n; sent = sym (nobody 8) i; gate = 
 pub returns-then-bad_ports : goal.returns-then-bad_ports
 returns-then-bad_ports c =
     let a = c.args in
-    begun 8 0 a.r c.empty.ensures ∙ by_count a.ports a.r true (sym c.bad_ports.ensures ∙ c.if-bad_ports.true)
+    begun 8 0 a.r c.from.ensures c.empty.ensures ∙ by_count a.ports a.r true (sym c.bad_ports.ensures ∙ c.if-bad_ports.true)
 
 pub returns : goal.returns
 returns c =
     let a = c.args in
-    begun 0 a.ports a.r c.empty-2.ensures ∙ by_count a.ports a.r false (sym c.bad_ports.ensures ∙ c.if-bad_ports.false)
+    begun 0 a.ports a.r refl c.empty-2.ensures ∙ by_count a.ports a.r false (sym c.bad_ports.ensures ∙ c.if-bad_ports.false)

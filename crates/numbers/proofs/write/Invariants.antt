@@ -1,4 +1,3 @@
-use Prim.Native.Nat.{◌≤◌}
 use mathlib.Core.Path.{◌≡◌}
 use mathlib.Core.List.{◌++◌}
 use lib.ListN.{length, drop}
@@ -7,7 +6,4 @@ use Rattle.numbers.proofs.write.Given as goal
 
 -- The bytes from i on are written, and the i low bytes of rest are what is left.
 abbrev pub invariant-loop-i : goal.invariant-loop-i
-invariant-loop-i l = (length l.out ≡ length l.initial.out) × (l.i ≤ length l.initial.out) × (bytes_of l.i l.rest ++ drop l.i l.out ≡ bytes_of (length l.initial.out) l.n)
-
-abbrev pub decreases-loop-i : goal.decreases-loop-i
-decreases-loop-i l = l.i
+invariant-loop-i l = bytes_of l.i l.rest ++ drop l.i l.out ≡ bytes_of (length l.initial.out) l.n

@@ -17,17 +17,17 @@ returns-then-out-at-2 c = put_no_room c.args.n c.args.width c.args.at c.args.out
 pub returns-then-width-eq8 : goal.returns-then-width-eq8
 returns-then-width-eq8 c =
     let a = c.args in
-    c.put_eight.ensures ∙ ap (λ (w : ℕ). pasted a.at (bytes_of w a.n) a.out.now) (sym c.if-width-eq8.true) ∙ put_where_room a.n a.width a.at a.out.now (omega (arith, c.if-out-at.false, c.if-out-at-2.false))
+    c.put_pairs.ensures ∙ ap (λ (w : ℕ). pasted a.at (bytes_of w a.n) a.out.now) (sym c.if-width-eq8.true) ∙ put_where_room a.n a.width a.at a.out.now (omega (arith, c.if-out-at.false, c.if-out-at-2.false))
 
 pub returns-then-width-eq6 : goal.returns-then-width-eq6
 returns-then-width-eq6 c =
     let a = c.args in
-    c.put_six.ensures ∙ ap (λ (w : ℕ). pasted a.at (bytes_of w a.n) a.out.now) (sym c.if-width-eq6.true) ∙ put_where_room a.n a.width a.at a.out.now (omega (arith, c.if-out-at.false, c.if-out-at-2.false))
+    c.put_pairs-then-width-eq6.ensures ∙ ap (λ (w : ℕ). pasted a.at (bytes_of w a.n) a.out.now) (sym c.if-width-eq6.true) ∙ put_where_room a.n a.width a.at a.out.now (omega (arith, c.if-out-at.false, c.if-out-at-2.false))
 
 pub returns-then-width-eq2 : goal.returns-then-width-eq2
 returns-then-width-eq2 c =
     let a = c.args in
-    c.put_two.ensures ∙ ap (λ (w : ℕ). pasted a.at (bytes_of w a.n) a.out.now) (sym c.if-width-eq2.true) ∙ put_where_room a.n a.width a.at a.out.now (omega (arith, c.if-out-at.false, c.if-out-at-2.false))
+    c.put_pairs-then-width-eq2.ensures ∙ ap (λ (w : ℕ). pasted a.at (bytes_of w a.n) a.out.now) (sym c.if-width-eq2.true) ∙ put_where_room a.n a.width a.at a.out.now (omega (arith, c.if-out-at.false, c.if-out-at-2.false))
 
 pub returns : goal.returns
 returns c =

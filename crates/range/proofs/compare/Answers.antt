@@ -1,41 +1,35 @@
 -- Both are tested, and then each is inside the other or is not.
-use mathlib.Core.Path.{sym, ap, ap₂, ◌∙◌}
-use mathlib.Core.Bool.{Bool, ◌&&◌, and-false, not}
-use Rattle.basics.proofs.Bools.{refuted, passed}
-use Rattle.range.specs.Range.{is_block}
-use Rattle.range.specs.Comparing.{lying}
+use mathlib.Core.Path.{◌≡◌, sym, ap, ap₂, ◌∙◌}
+use mathlib.Core.Bool.{Bool, ◌&&◌, true, and-false}
+use Rattle.std.specs.Prelude.{Ok}
+use Rattle.range.specs.declared.Block.{Block}
+use Rattle.range.specs.Range.{is_block, inside}
+use Rattle.range.specs.Comparing.{lying, comparison}
 use Rattle.range.proofs.Comparing.{compared, not_compared}
+use Rattle.range.proofs.compare.Goals.{then-not-is_block-via-then-not-is_block, then-not-is_block-via-else-not-is_block+then-not-is_block-2}
 use Rattle.range.proofs.compare.Goals as goal
 
 pub returns-then-not-is_block : goal.returns-then-not-is_block
 returns-then-not-is_block c =
-    sym (not_compared c.args.a c.args.b (ap (λ (t : Bool). t && is_block c.args.b) (refuted _ _ (ap not c.if-not-is_block.true) c.is_block.ensures)))
+    let a = c.args in
+    elim c.then-not-is_block.branch [
+      | then-not-is_block-via-then-not-is_block w ↦ sym (not_compared a.a a.b (ap (λ (t : Bool). t && is_block a.b) (sym w.if-not-is_block.ensures)))
+      | then-not-is_block-via-else-not-is_block+then-not-is_block-2 w ↦
+          sym (not_compared a.a a.b (ap (λ (t : Bool). is_block a.a && t) (sym w.if-not-is_block-2.ensures) ∙ and-false (is_block a.a)))
+    ]
 
-pub returns-then-not-is_block-2 : goal.returns-then-not-is_block-2
-returns-then-not-is_block-2 c =
-    sym (not_compared c.args.a c.args.b (ap (λ (t : Bool). is_block c.args.a && t) (refuted _ _ (ap not c.if-not-is_block-2.true) c.is_block-2.ensures) ∙ and-false (is_block c.args.a)))
+-- What two blocks are compared to, by what is known of each inside the other.
+known : (a b : Block) {i j : Bool} → true ≡ is_block a → true ≡ is_block b → i ≡ inside a b → j ≡ inside b a → Ok (lying i j) ≡ comparison a b
+known a b v w i j = sym (compared a b (sym v) (sym w) ∙ ap₂ (λ (x y : Bool). Ok (lying x y)) (sym i) (sym j))
 
-pub inside-requires : goal.inside-requires
-inside-requires c = (passed _ _ (ap not c.if-not-is_block.false) c.is_block.ensures, passed _ _ (ap not c.if-not-is_block-2.false) c.is_block-2.ensures)
+pub returns-in-true-true : goal.returns-in-true-true
+returns-in-true-true c = known _ _ c.if-not-is_block.ensures c.if-not-is_block-2.ensures c.in-true-true.ensures c.in-true-true.ensures'
 
-pub inside-requires-then-inside : goal.inside-requires-then-inside
-inside-requires-then-inside c = (passed _ _ (ap not c.if-not-is_block-2.false) c.is_block-2.ensures, passed _ _ (ap not c.if-not-is_block.false) c.is_block.ensures)
+pub returns-in-true-false : goal.returns-in-true-false
+returns-in-true-false c = known _ _ c.if-not-is_block.ensures c.if-not-is_block-2.ensures c.in-true-false.ensures c.in-true-false.ensures'
 
-pub returns-then-inside-2 : goal.returns-then-inside-2
-returns-then-inside-2 c =
-    sym (compared c.args.a c.args.b (passed _ _ (ap not c.if-not-is_block.false) c.is_block.ensures) (passed _ _ (ap not c.if-not-is_block-2.false) c.is_block-2.ensures) ∙ ap₂ lying (sym c.inside.ensures ∙ c.if-inside.true) (sym c.inside-then-inside.ensures ∙ c.if-inside-2.true))
+pub returns-in-false-true : goal.returns-in-false-true
+returns-in-false-true c = known _ _ c.if-not-is_block.ensures c.if-not-is_block-2.ensures c.in-false-true.ensures c.in-false-true.ensures'
 
-pub returns-else-inside-2 : goal.returns-else-inside-2
-returns-else-inside-2 c =
-    sym (compared c.args.a c.args.b (passed _ _ (ap not c.if-not-is_block.false) c.is_block.ensures) (passed _ _ (ap not c.if-not-is_block-2.false) c.is_block-2.ensures) ∙ ap₂ lying (sym c.inside.ensures ∙ c.if-inside.true) (sym c.inside-then-inside.ensures ∙ c.if-inside-2.false))
-
-pub inside-requires-2 : goal.inside-requires-2
-inside-requires-2 c = (passed _ _ (ap not c.if-not-is_block-2.false) c.is_block-2.ensures, passed _ _ (ap not c.if-not-is_block.false) c.is_block.ensures)
-
-pub returns-then-inside-3 : goal.returns-then-inside-3
-returns-then-inside-3 c =
-    sym (compared c.args.a c.args.b (passed _ _ (ap not c.if-not-is_block.false) c.is_block.ensures) (passed _ _ (ap not c.if-not-is_block-2.false) c.is_block-2.ensures) ∙ ap₂ lying (sym c.inside.ensures ∙ c.if-inside.false) (sym c.inside-2.ensures ∙ c.if-inside-3.true))
-
-pub returns-else-inside-3 : goal.returns-else-inside-3
-returns-else-inside-3 c =
-    sym (compared c.args.a c.args.b (passed _ _ (ap not c.if-not-is_block.false) c.is_block.ensures) (passed _ _ (ap not c.if-not-is_block-2.false) c.is_block-2.ensures) ∙ ap₂ lying (sym c.inside.ensures ∙ c.if-inside.false) (sym c.inside-2.ensures ∙ c.if-inside-3.false))
+pub returns-in-false-false : goal.returns-in-false-false
+returns-in-false-false c = known _ _ c.if-not-is_block.ensures c.if-not-is_block-2.ensures c.in-false-false.ensures c.in-false-false.ensures'

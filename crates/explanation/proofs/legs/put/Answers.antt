@@ -1,37 +1,42 @@
--- A reason makes it a report; a refusal is 15 or the gateway call's own.
-use Rattle.std.proofs.Common.{Bool, ◌||◌, sym, ap, ◌∙◌, arith}
-use mathlib.Core.Bool.{or-true, or-false}
-use Rattle.gateway.specs.State.{lists, index_lists, gate_in}
-use Rattle.explanation.proofs.Asked.{report_lines, asked_report, asked_refuses}
-use Rattle.explanation.proofs.Running.{nothing_put, same_lines}
+-- A report is told of each leg; what is refused has its own line, or none where it is no report.
+use Rattle.std.proofs.Common.{[], sym, ap, ◌∙◌, rules}
+use denote.Enum.Bare.{same_true, same_false}
+use Rattle.basics.specs.contracts.Refusal.{the_type}
+use Rattle.basics.specs.declared.Refusal.TheVariants.{NoReport}
+use Rattle.basics.proofs.Numbers.{refusal_once}
+use Rattle.basics.specs.Refusals.{refusal_number}
+use Rattle.text.specs.declared.Page.{Page}
+use Rattle.text.specs.Text.{wrote}
+use Rattle.text.proofs.Laws.{wrote_next}
+use Rattle.gateway.specs.State.{gate_of}
+use Rattle.explanation.specs.Words.{refused_line}
+use Rattle.explanation.proofs.Asked.{report_lines, first_refuses}
 use Rattle.explanation.proofs.legs.put.Goals as goal
 
-pub put_legs-next-requires : goal.put_legs-next-requires
-put_legs-next-requires c =
+pub returns-in_default-clause-lines : goal.returns-in_default-clause-lines
+returns-in_default-clause-lines c =
     let a = c.args in
-    let t = lists a.nodes.now a.starts.now a.ports.now a.sizes.now in
-    record { whole = c.requires.whole; ports_value = c.requires.ports_value; bytes_value = asked_report a.head t a.port 0 a.bytes.now c.requires.ports_value.0 (omega arith) (index_lists a.order.now a.sets.now) c.requires.whole c.why.result c.why.ensures c.in_default.is }
+    c.in_default.ensures.1 ∙ ap (wrote a.page.now) (report_lines (gate_of a.gateway.now) a.entry.port a.entry.body.now a.entry.index c.in_default.ensures.0)
 
-pub returns-in_default : goal.returns-in_default
-returns-in_default c =
+pub returns-then-eq-clause-lines : goal.returns-then-eq-clause-lines
+returns-then-eq-clause-lines c =
     let a = c.args in
-    let t = lists a.nodes.now a.starts.now a.ports.now a.sizes.now in
-    let r = asked_report a.head t a.port 0 a.bytes.now c.requires.ports_value.0 (omega arith) (index_lists a.order.now a.sets.now) c.requires.whole c.why.result c.why.ensures c.in_default.is in
-    let told = same_lines a.before.place a.text.now (report_lines (gate_in a.head t) a.port a.bytes.now a.i r) (c.put_legs-next.ensures.value, c.put_legs-next.ensures.text_after) in
-    record { place_value = told.0; text_after = told.1; reported_value = sym (ap (λ (b : Bool). a.before.reported || b) r ∙ or-true a.before.reported) }
+    let f = first_refuses a.gateway.now a.entry.port a.entry.body.now c.requires.right.1 a.entry.index c.in-Err.ensures.0 in
+    c.in-Err.ensures.1 ∙ ap (wrote a.page.now) (f.other (ap refusal_number (same_true the_type (search rules) c.in-Err.refusal NoReport (sym c.if-eq.ensures))))
 
-pub returns-then-n-eq15 : goal.returns-then-n-eq15
-returns-then-n-eq15 c =
+pub returns-then-eq-clause-accepted : goal.returns-then-eq-clause-accepted
+returns-then-eq-clause-accepted c =
     let a = c.args in
-    let t = lists a.nodes.now a.starts.now a.ports.now a.sizes.now in
-    let f = asked_refuses a.head t a.port 0 a.bytes.now c.requires.ports_value.0 (omega arith) (index_lists a.order.now a.sets.now) c.requires.whole c.why.result c.why.ensures a.i c.in-Refused.is in
-    let told = same_lines a.before.place a.text.now (f.other c.if-n-eq15.true) (nothing_put a.before.place a.text.now c.requires.ports_value.1) in
-    record { place_value = told.0; text_after = told.1; reported_value = sym (ap (λ (b : Bool). a.before.reported || b) f.no_report_lem ∙ or-false a.before.reported) }
+    sym (first_refuses a.gateway.now a.entry.port a.entry.body.now c.requires.right.1 a.entry.index c.in-Err.ensures.0).no_report_lem
 
-pub returns : goal.returns
-returns c =
+pub returns-clause-lines : goal.returns-clause-lines
+returns-clause-lines c =
     let a = c.args in
-    let t = lists a.nodes.now a.starts.now a.ports.now a.sizes.now in
-    let f = asked_refuses a.head t a.port 0 a.bytes.now c.requires.ports_value.0 (omega arith) (index_lists a.order.now a.sets.now) c.requires.whole c.why.result c.why.ensures a.i c.in-Refused.is in
-    let told = same_lines a.before.place a.text.now (f.line c.if-n-eq15.false) (c.put_refusal-next.ensures.value, c.put_refusal-next.ensures.text_after) in
-    record { place_value = told.0; text_after = told.1; reported_value = sym (ap (λ (b : Bool). a.before.reported || b) f.no_report_lem ∙ or-false a.before.reported) }
+    let line = refused_line a.entry.index (refusal_number c.in-Err.refusal) in
+    let f = first_refuses a.gateway.now a.entry.port a.entry.body.now c.requires.right.1 a.entry.index c.in-Err.ensures.0 in
+    c.put_refusal.ensures ∙ ap (λ (q : Page). wrote q line) c.in-Err.ensures.1 ∙ wrote_next a.page.now [] line ∙ ap (wrote a.page.now) (f.line (λ e. same_false the_type c.in-Err.refusal NoReport (sym c.if-eq.ensures) (refusal_once c.in-Err.refusal NoReport e)))
+
+pub returns-clause-accepted : goal.returns-clause-accepted
+returns-clause-accepted c =
+    let a = c.args in
+    sym (first_refuses a.gateway.now a.entry.port a.entry.body.now c.requires.right.1 a.entry.index c.in-Err.ensures.0).no_report_lem

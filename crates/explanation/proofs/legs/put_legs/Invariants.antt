@@ -1,14 +1,12 @@
-use Rattle.std.proofs.Common.{◌-◌}
-use Rattle.replay.specs.Lines.{ports as leg_count}
-use Rattle.gateway.specs.State.{lists, gate_in}
-use Rattle.explanation.specs.Words.{event_in}
-use Rattle.explanation.proofs.Running.{Legs}
+use Rattle.std.proofs.Common.{◌≡◌, ◌<◌, true}
+use Rattle.text.specs.Text.{wrote}
+use Rattle.gateway.specs.State.{gate_of}
+use Rattle.explanation.specs.Words.{event_in, leg_lines, accepted_report}
 use Rattle.explanation.proofs.legs.put_legs.Given as goal
 
--- Each turn puts the line of one leg in.
+-- The lines of the legs before are put in, and where there is one the entry is an accepted report.
 abbrev pub invariant-loop-leg : goal.invariant-loop-leg
-invariant-loop-leg l =
-    Legs l.i (gate_in l.head (lists l.nodes l.starts l.ports l.sizes)) l.port (event_in l.bytes) l.initial.next l.initial.text l.leg l.next l.text
-
-abbrev pub decreases-loop-leg : goal.decreases-loop-leg
-decreases-loop-leg l = leg_count - l.leg
+invariant-loop-leg l = record {
+  lines : l.page ≡ wrote l.fn.page (leg_lines l.leg 0 l.entry.index (gate_of l.gateway) l.entry.port (event_in l.entry.body.now));
+  accepted : 0 < l.leg → accepted_report (gate_of l.gateway) l.entry.port l.entry.body.now ≡ true;
+}

@@ -1,33 +1,29 @@
-use Prim.Native.Nat.{ℕ}
-use mathlib.Core.Path.{◌≡◌, refl, sym, ap, ◌∙◌}
+use Prim.Native.Nat.{ℕ, ◌+◌, ◌-◌}
+use mathlib.Core.Path.{◌≡◌, sym, ap, ◌∙◌}
 use native.Mathlib.Omega.{arith}
 use Rattle.framing.specs.Files.{good_steps}
-use Rattle.framing.proofs.Good.{step_least, step_whole, steps_none, steps_turn}
+use Rattle.framing.proofs.Good.{step_whole, steps_none, steps_turn}
 use Rattle.framing.proofs.files.good_steps.Goals as goal
 
-pub loop-left-init : goal.loop-left-init
-loop-left-init c = (omega arith, refl)
-
-pub returns-then-not-good_step : goal.returns-then-not-good_step
-returns-then-not-good_step c =
-    sym (steps_turn c.args.file.now c.loop-left.at c.loop-left.left c.loop-left-test.true (sym c.good_step.ensures ∙ c.if-not-good_step.true)) ∙ c.loop-left.invariant.1
-
-pub size_at-at-requires : goal.size_at-at-requires
-size_at-at-requires c =
-    let good = sym c.good_step.ensures ∙ c.if-not-good_step.false in
-    (step_least c.args.file.now c.loop-left.at good, c.requires.1)
+pub returns-in_default : goal.returns-in_default
+returns-in_default c =
+    let l = c.loop-k in
+    sym (steps_turn c.args.file.now l.at (c.args.count - l._k) (omega arith) c.in_default.ensures) ∙ l.invariant.1
 
 pub overflow_add-at : goal.overflow_add-at
 overflow_add-at c =
-    let good = sym c.good_step.ensures ∙ c.if-not-good_step.false in
-    omega (arith, step_whole c.args.file.now c.loop-left.at good, c.size_at-at.ensures)
+    omega (arith, step_whole c.args.file.now c.loop-k.at c.in-Some.ensures.0, c.size-at.ensures)
 
-pub loop-left-preserved : goal.loop-left-preserved
-loop-left-preserved c =
-    let good = sym c.good_step.ensures ∙ c.if-not-good_step.false in
-    rw c.size_at-at.ensures ((step_whole c.args.file.now c.loop-left.at good).1, sym (steps_turn c.args.file.now c.loop-left.at c.loop-left.left c.loop-left-test.true good) ∙ c.loop-left.invariant.1)
+pub loop-k-preserved : goal.loop-k-preserved
+loop-k-preserved c =
+    let l = c.loop-k in
+    let good = c.in-Some.ensures.0 in
+    let f = c.args.file.now in
+    let rest : c.args.count - (l._k + 1) ≡ c.args.count - l._k - 1 = omega arith in
+    rw (c.size-at.ensures, rest) ((step_whole f l.at good).1, sym (steps_turn f l.at (c.args.count - l._k) (omega arith) good) ∙ l.invariant.1)
 
 pub returns : goal.returns
 returns c =
-    let last : c.loop-left.left ≡ 0 = omega (arith, c.loop-left-test.false) in
-    sym (ap (λ (n : ℕ). good_steps n c.args.file.now c.loop-left.at) last ∙ steps_none c.args.file.now c.loop-left.at) ∙ c.loop-left.invariant.1
+    let l = c.loop-k in
+    let last : c.args.count - l._k ≡ 0 = omega arith in
+    sym (ap (λ (n : ℕ). good_steps n c.args.file.now l.at) last ∙ steps_none c.args.file.now l.at) ∙ l.invariant.1

@@ -9,6 +9,6 @@ pub returns-then-b-eq0 : goal.returns-then-b-eq0
 unfolding has_number
 returns-then-b-eq0 c = rw (eq-eqb c.args.b.k 0 c.if-b-eq0.true)
 
-pub returns : goal.returns
+pub returns-else-b-eq0 : goal.returns-else-b-eq0
 unfolding has_number
-returns c = rw (ne_eqb c.args.b.k 0 c.if-b-eq0.false) (ap not c.is_block.ensures)
+returns-else-b-eq0 c = rw (ne_eqb c.args.b.k 0 c.if-b-eq0.false) (ap not c.is_block.ensures)

@@ -1,31 +1,16 @@
 -- The first test that applies; the index last.
+use mathlib.Core.Path.{sym, ◌∙◌}
 use Rattle.gateway.specs.State.{lists, index_lists}
-use mathlib.Core.Path.{refl, sym, ◌∙◌}
 use Rattle.gateway.proofs.InBounds.{by_head, few_lines, lines_sized}
 use Rattle.gateway.proofs.Fitting.{tests_tell}
 use Rattle.gateway.proofs.Lending.{whole_lists, whole_index, outside_by}
 use Rattle.gateway.proofs.bounds.bad_state.Goals as goal
-
-pub returns-then-bad_lengths : goal.returns-then-bad_lengths
-returns-then-bad_lengths c =
-    let a = c.args in
-    sym (outside_by a.head (lists a.nodes.now a.starts.now a.ports.now a.sizes.now) (index_lists a.order.now a.sets.now) (sym c.bad_lengths.ensures ∙ c.if-bad_lengths.true) refl refl)
-
-pub returns-then-bad_index_lengths : goal.returns-then-bad_index_lengths
-returns-then-bad_index_lengths c =
-    let a = c.args in
-    sym (outside_by a.head (lists a.nodes.now a.starts.now a.ports.now a.sizes.now) (index_lists a.order.now a.sets.now) (sym c.bad_lengths.ensures ∙ c.if-bad_lengths.false) (sym c.bad_index_lengths.ensures ∙ c.if-bad_index_lengths.true) refl)
 
 pub returns-then-bad_head : goal.returns-then-bad_head
 returns-then-bad_head c =
     let a = c.args in
     let t = lists a.nodes.now a.starts.now a.ports.now a.sizes.now in
     sym (outside_by a.head t (index_lists a.order.now a.sets.now) (sym c.bad_lengths.ensures ∙ c.if-bad_lengths.false) (sym c.bad_index_lengths.ensures ∙ c.if-bad_index_lengths.false) (by_head a.head t (sym c.bad_head.ensures ∙ c.if-bad_head.true)))
-
-pub bad_lines-requires : goal.bad_lines-requires
-bad_lines-requires c =
-    let a = c.args in
-    record { count_bound = few_lines a.head (sym c.bad_head.ensures ∙ c.if-bad_head.false); whole = whole_lists (lists a.nodes.now a.starts.now a.ports.now a.sizes.now) (sym c.bad_lengths.ensures ∙ c.if-bad_lengths.false) }
 
 pub returns-then-bad_lines : goal.returns-then-bad_lines
 returns-then-bad_lines c =
@@ -38,9 +23,16 @@ pub astray-requires : goal.astray-requires
 astray-requires c =
     let a = c.args in
     let t = lists a.nodes.now a.starts.now a.ports.now a.sizes.now in
-    let in_bounds = by_head a.head t (sym c.bad_head.ensures ∙ c.if-bad_head.false) ∙ sym c.bad_lines.ensures ∙ c.if-bad_lines.false in
-    let w = whole_lists t (sym c.bad_lengths.ensures ∙ c.if-bad_lengths.false) in
-    record { count_bound = few_lines a.head (sym c.bad_head.ensures ∙ c.if-bad_head.false); whole_spots = (w.1, w.2, w.3); order_len = whole_index (index_lists a.order.now a.sets.now) (sym c.bad_index_lengths.ensures ∙ c.if-bad_index_lengths.false); sized = lines_sized a.head t in_bounds }
+    lines_sized a.head t (by_head a.head t (sym c.bad_head.ensures ∙ c.if-bad_head.false) ∙ sym c.bad_lines.ensures ∙ c.if-bad_lines.false)
+
+pub invariant_of-table : goal.invariant_of-table
+invariant_of-table c =
+    let a = c.args in
+    record {
+      whole = whole_lists (lists a.nodes.now a.starts.now a.ports.now a.sizes.now) (sym c.bad_lengths.ensures ∙ c.if-bad_lengths.false);
+      whole_index = whole_index (index_lists a.order.now a.sets.now) (sym c.bad_index_lengths.ensures ∙ c.if-bad_index_lengths.false);
+      few = few_lines a.head (sym c.bad_head.ensures ∙ c.if-bad_head.false);
+    }
 
 pub returns : goal.returns
 returns c =

@@ -1,4 +1,3 @@
-use Prim.Native.Nat.{◌-◌, ◌≤◌}
 use mathlib.Core.Path.{◌≡◌}
 use mathlib.Core.Bool.{not, ◌&&◌}
 use lib.Dec.{eqb, ltb}
@@ -6,10 +5,5 @@ use Rattle.basics.specs.Sets.{set_of, in_set}
 use Rattle.gateway.proofs.port_sets.others.Given as goal
 
 -- The ports below p are settled.
--- The ports below p are settled.
--- The ports below p are settled.
 abbrev pub invariant-loop-p : goal.invariant-loop-p
-invariant-loop-p l = (l.p ≤ 8) × (l.sent ≡ set_of l.p (λ q. ltb q l.ports && (not (eqb q l.port) && in_set l.set q)))
-
-abbrev pub decreases-loop-p : goal.decreases-loop-p
-decreases-loop-p l = 8 - l.p
+invariant-loop-p l = l.sent ≡ set_of l.p (λ q. ltb q l.ports && (not (eqb q l.port) && in_set l.set q))

@@ -9,5 +9,5 @@ pub returns : goal.returns
 unfolding fields_in
 returns c =
     let a = c.args in
-    let event = c.field_at-event.ensures ∙ ap (λ (k : ℕ). field_at (carries_event a.code) a.bytes.now k 8) c.event_at.ensures in
-    λ i. record { mti = a.code; source = c.read_at-source.ensures i; destination = c.field_at-destination.ensures i; event = event i }
+    let event = c.field_at-2.ensures ∙ ap (λ (k : ℕ). field_at (carries_event a.code) a.bytes.now k 8) c.event_at.ensures in
+    λ i. record { mti = a.code; source = c.read_at.ensures i; destination = c.field_at.ensures i; event = event i }

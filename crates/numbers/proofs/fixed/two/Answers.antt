@@ -1,9 +1,7 @@
--- Two bytes are read as a pair.
-use native.Mathlib.Omega.{arith}
+use mathlib.Core.Path.{◌∙◌, ap₂}
+use Prim.Native.Nat.{ℕ, ◌+◌, ◌*◌}
 use Rattle.numbers.proofs.Pairs.{number_two}
 use Rattle.numbers.proofs.fixed.two.Goals as goal
 
-pub returns : goal.returns
-returns c =
-    let a = c.args in
-    record { value = rw (c.wide.ensures.value, c.wide-2.ensures.value) (number_two a.bytes.now a.at c.requires); upper_bound = omega arith }
+pub returns-clause-value : goal.returns-clause-value
+returns-clause-value c = ap₂ (λ (x y : ℕ). x + y * 256) c.from.ensures c.from-2.ensures ∙ number_two c.args.bytes.now c.args.at c.requires

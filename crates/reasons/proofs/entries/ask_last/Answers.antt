@@ -1,52 +1,39 @@
--- The entries before the last have left the state in which it is asked, and its index is right.
-use Prim.Native.Nat.{ℕ}
-use mathlib.Core.Path.{◌≡◌, ap, ap₂, ◌∙◌}
-use mathlib.Core.List.{List}
-use native.Mathlib.Omega.{arith}
-use Rattle.text.specs.Text.{filled, end_of}
-use Rattle.gateway_rules.specs.State.{Gate}
-use Rattle.gateway.specs.State.{gate_of, lists_of, index_lists_of, Whole}
-use Rattle.gateway.specs.Indexing.{WholeIndex}
-use Rattle.replay.specs.Files.{port_in, entry_count}
-use Rattle.replay.proofs.Good.{good_file_lem}
-use Rattle.reasons.specs.Lines.{answer_of, last_of}
-use Rattle.reasons.proofs.Leaving.{last_lines, last_size, last_body}
-use borrow.Author.Rules.{rules}
+-- Each entry is run once there is one after it, and the last is asked.
+use Rattle.std.proofs.Common.{[], sym, ap, ◌∙◌}
+use Rattle.text.specs.Text.{wrote}
+use Rattle.text.proofs.Laws.{remains_all}
+use Rattle.gateway.specs.declared.state.Head.{Head}
+use Rattle.gateway.specs.State.{box_of}
+use Rattle.gateway.proofs.Lending.{right_next, gate_next}
+use Rattle.replay.proofs.Walk.{started, started_ports, started_right}
+use Rattle.reasons.proofs.Leaving.{no_lines, reached_first, reached_next, reached_last}
 use Rattle.reasons.proofs.entries.ask_last.Goals as goal
 
-pub overflow_mul-entry : goal.overflow_mul-entry
-overflow_mul-entry c = omega (arith, (good_file_lem _ c.requires.file_value).count, c.requires.last_value)
+pub returns-in_default : goal.returns-in_default
+returns-in_default c =
+    let a = c.args in
+    (remains_all a.page.now [] c.requires.at_in_bounds).inside ∙ ap (wrote a.page.now) (no_lines a.entries.file.now (sym c.in_default.ensures.steps ∙ c.requires.first))
 
-pub overflow_add-entry : goal.overflow_add-entry
-overflow_add-entry c = omega (arith, (good_file_lem _ c.requires.file_value).count, c.requires.last_value)
+pub loop-entry-init : goal.loop-entry-init
+loop-entry-init c =
+    let s = c.start in
+    let reached = reached_first c.args.entries c.next.new.self c.in-Some.asked c.requires.first c.in-Some.ensures.steps (started s.result s.ensures) in record {
+      reached = rw c.into_iter-entry-iterator.ensures.into_iter_gives reached;
+      right = (started_right s.result s.ensures, started_ports s.result s.ensures);
+    }
 
-pub bounds-file-entry : goal.bounds-file-entry
-bounds-file-entry c = omega (arith, (good_file_lem _ c.requires.file_value).table, c.requires.last_value)
+pub loop-entry-preserved : goal.loop-entry-preserved
+loop-entry-preserved c =
+    let b = box_of c.loop-entry.gateway in
+    let asked = c.loop-entry.asked in
+    let before = c.loop-entry.invariant in
+    let gate = gate_next b asked.port asked.body.now before.right.0 c.hear.ensures.seen in record {
+      reached = reached_next before.reached c.next-in-loop-entry.new.self c.in-Some-entry.entry c.in-Some-entry.ensures.steps gate;
+      right = (right_next b asked.port asked.body.now before.right.0 c.hear.ensures.seen, ap (λ (h : Head). h.ports) c.hear.ensures.left ∙ before.right.1);
+    }
 
-pub overflow_add-entry-2 : goal.overflow_add-entry-2
-overflow_add-entry-2 c = omega (arith, (good_file_lem _ c.requires.file_value).count, c.requires.last_value)
-
-pub overflow_sub-body : goal.overflow_sub-body
-overflow_sub-body c =
-    omega (arith, last_size c.args.file.now c.args.last c.requires.last_value (good_file_lem _ c.requires.file_value), c.read_at-length.ensures)
-
-pub slice_bounds-put-end-5 : goal.slice_bounds-put-end-5
-slice_bounds-put-end-5 c = search (rules, c.left_after-left.type_inv)
-
-pub slice_bounds-put-end-6 : goal.slice_bounds-put-end-6
-slice_bounds-put-end-6 c = search (rules, c.left_after-left.type_inv)
-
-pub put-requires : goal.put-requires
-put-requires c =
-    let all : Whole (lists_of c.left_after-left.result) = (search (rules, c.left_after-left.type_inv), search (rules, c.left_after-left.type_inv), search (rules, c.left_after-left.type_inv), search (rules, c.left_after-left.type_inv)) in
-    let index = c.left_after-left.type_inv.1.1.1.1.1.1.1 in
-    let both : WholeIndex (index_lists_of c.left_after-left.result) = (search (rules, index), search (rules, index)) in
-    record { whole = (all, both); right = c.left_after-left.ensures.right }
+pub put-requires-clause-within : goal.put-requires-clause-within
+put-requires-clause-within c = (remains_all c.args.page.now [] c.requires.at_in_bounds).inside
 
 pub returns : goal.returns
-returns c =
-    let a = c.args in
-    let s = a.file.now in
-    let whole = good_file_lem s c.requires.file_value in
-    let lines : answer_of (gate_of c.left_after-left.result) (port_in s a.last) _ ≡ last_of (entry_count s) s = ap₂ (λ (g : Gate) (l : List ℕ). answer_of g (port_in s a.last) l) c.left_after-left.ensures.result_value (last_body s a.last c.requires.last_value whole c.read_at-length.ensures) ∙ last_lines s a.last c.requires.last_value in
-    record { value = c.put.ensures.value ∙ ap (λ (l : List ℕ). end_of a.at l a.text.now) lines; text_after = c.put.ensures.text_after ∙ ap (λ (l : List ℕ). filled a.at l a.text.now) lines }
+returns c = c.put.ensures ∙ ap (wrote c.args.page.now) (reached_last c.loop-entry.invariant.reached c.next-in-loop-entry.new.self c.in-None.ensures.steps)

@@ -1,9 +1,0 @@
--- The count stays within the times asked for.
-use Rattle.std.proofs.Common.{◌-◌, ◌≤◌}
-use Rattle.gateway_cases.proofs.commands.received.Given as goal
-
-abbrev pub invariant-loop-i : goal.invariant-loop-i
-invariant-loop-i l = l.i ≤ l.times
-
-abbrev pub decreases-loop-i : goal.decreases-loop-i
-decreases-loop-i l = l.times - l.i

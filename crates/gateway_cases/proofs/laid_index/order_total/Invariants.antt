@@ -1,9 +1,0 @@
--- The place stays within the table.
-use Rattle.std.proofs.Common.{◌-◌, ◌≤◌}
-use Rattle.gateway_cases.proofs.laid_index.order_total.Given as goal
-
-abbrev pub invariant-loop-i : goal.invariant-loop-i
-invariant-loop-i l = l.i ≤ 256
-
-abbrev pub decreases-loop-i : goal.decreases-loop-i
-decreases-loop-i l = 256 - l.i

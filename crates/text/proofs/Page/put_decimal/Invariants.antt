@@ -1,0 +1,7 @@
+use Rattle.text.specs.Text.{decimal, decimal_up_to}
+use Rattle.text.proofs.Laws.{Remains}
+use Rattle.text.proofs.Page.put_decimal.Given as goal
+
+-- The digits of the places below w are still to be put in.
+abbrev pub invariant-loop-w : goal.invariant-loop-w
+invariant-loop-w l = Remains l.fn.self (decimal l.n) l.self (decimal_up_to l.w l.n)
