@@ -4,10 +4,10 @@ use mathlib.Core.Path.{◌≡◌, refl, sym, ap, ap₂, ◌∙◌}
 use mathlib.Core.Logic.{◌⊎◌, ⊎_elim}
 use mathlib.Core.Bool.{Bool, true, false, cond, ◌||◌}
 use mathlib.Core.List.{List, [], ◌∷◌, ◌++◌, append-nil}
-use native.Mathlib.Nat.{zero-sub, suc-add, add-suc, add-zero}
+use native.Mathlib.Nat.{zero-sub, suc-add, add-suc, add-zero, pow-suc, one-le-pow}
 use native.Mathlib.Omega.{arith}
 use borrow.Author.Tests.{leb-true, leb-false, le-leb, lt-leb, ne_eqb}
-use lib.Dec.{eqb, leb}
+use lib.Dec.{eqb, leb, lit<}
 use lib.ListN.{length, get_or, take, drop, set, length-append, length-set, take-append-drop, drop_of_length-le}
 use lib.Seq.{drop-nil, take_all, take-length, take-append_seam, set_split}
 use Rattle.std.proofs.lemmas.List.{take_more}
@@ -296,6 +296,27 @@ module _ {p q : Page} (n w : ℕ) {place : ℕ} (some : 0 < w) (power : place �
       or_true true = refl
       or_true false = refl
 
-pub digits_none : {p q : Page} (n w : ℕ) → w ≤ 0 → Remains p (decimal n) q (decimal_up_to w n) → q ≡ wrote p (decimal n)
+-- The place below a digit's is a tenth of it.
+pub place_below : (w : ℕ) {place : ℕ} → place ≡ 10 ^ w → 0 < w → place / 10 ≡ 10 ^ (w - 1)
+place_below zero e h = absurd (omega (arith, h))
+place_below (suc w) e h = let one_less : suc w - 1 ≡ w = omega arith in rw (one_less, e) (tenth w)
+  where
+    tenth : (w : ℕ) → 10 ^ suc w / 10 ≡ 10 ^ w
+    tenth w = omega (arith, pow-suc 10 w)
+
+pub digits_last : {p q r : Page} (n w : ℕ) → w ≡ 1 → Remains p (decimal n) q (decimal_up_to w n) → r ≡ wrote q (digit (n % 10) ∷ []) → r ≡ wrote p (decimal n)
 unfolding decimal_up_to
-digits_none n w h d = let none : w ≡ 0 = omega (arith, h) in remains_none (rw none at d)
+digits_last n w one d f =
+    let same : n / 1 % 10 ≡ n % 10 = omega arith in
+    remains_none (remains_next (digit (n / 1 % 10) ∷ []) (rw one at d) (rw same f))
+
+-- A number below ten is its one digit.
+one_digit_up_to : (w n : ℕ) → n < 10 → decimal_up_to (suc w) n ≡ digit n ∷ []
+unfolding decimal_up_to
+one_digit_up_to zero n h = ap (λ (d : ℕ). digit d ∷ []) (omega (arith, h))
+one_digit_up_to (suc w) n h =
+    let none = lt-leb (10 ^ suc w) n (omega (arith, h, pow-suc 10 w, one-le-pow w 10 (lit< tt))) in
+    rw (ne_eqb (suc w) 0 (λ e. omega (arith, e)), none) (one_digit_up_to w n h)
+
+pub digit_only : (p : Page) {q r : Page} (n : ℕ) → n < 10 → q ≡ wrote p [] → r ≡ wrote q (digit n ∷ []) → r ≡ wrote p (decimal n)
+digit_only p n h e f = rw (one_digit_up_to 19 n h) (f ∙ ap (λ (x : Page). wrote x (digit n ∷ [])) e ∙ wrote_next p [] (digit n ∷ []))

@@ -28,12 +28,19 @@ impl<'a> Page<'a> {
         ensures { self.new ≡ wrote self.old (decimal n) }
     {
         self.stay_within();
-        for w in (0..20).rev() {
-            let place = 10u64.pow(w);
-            if w == 0 || place <= n {
+        if n < 10 {
+            self.put_byte(48 + n as u8);
+            return;
+        }
+        let mut next: u64 = 10_000_000_000_000_000_000;
+        for w in (1..20u32).rev() {
+            let place = next;
+            next /= 10;
+            if place <= n {
                 self.put_byte(48 + (n / place % 10) as u8);
             }
         }
+        self.put_byte(48 + (n % 10) as u8);
     }
 
     // Bytes in upper-case hexadecimal.
