@@ -62,9 +62,12 @@ fn put_field(field: Option<u64>, width: usize, at: usize, out: &mut [u8]) -> usi
     }
 }
 
+// Byte by byte: for copy_from_slice the archive for C would need memmove beside memcpy and memset.
 fn put_body(body: &[u8], at: usize, out: &mut [u8])
     requires { at + length body.now ≤ length out.old }
     ensures { out.new ≡ pasted at body.now out.old }
 {
-    out[at..at + body.len()].copy_from_slice(body);
+    for i in 0..body.len() {
+        out[at + i] = body[i];
+    }
 }
