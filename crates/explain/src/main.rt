@@ -1,12 +1,23 @@
 // A trial file on standard input, on standard output why each report was sent to a leg or held back; "bad file" for any other input.
 #![tactic(auto)]
 
-use std::io;
+ghost use Rattle.std.specs.Prelude.{OnOk};
+ghost use Rattle.std.specs.Io.KnownBytes.{Appends};
+ghost use Rattle.explanation.specs.Words.{text_of};
+
+use std::io::{self, Write};
 
 fn main(rt: HostRuntime) {
     let file = streams::Input::read(&mut rt.stdin());
-    let part = |skip, text: &mut [u8; streams::PART]| explanation::part(file.bytes(), skip, text);
-    if streams::write_parts(&mut io::writer(&rt), part).is_err() {
+    if write_text(file.bytes(), &mut io::writer(&rt)).is_err() {
         let _ = eprintln!(rt; "explain: the output is not whole");
     }
+}
+
+// Writes the whole text of a file, in parts.
+fn write_text<W: Write>(file: &[u8], out: &mut W) -> io::Result<()>
+    ensures { OnOk result (Appends (W.contents out.old) (W.contents out.new) (text_of file.now)) }
+{
+    let part = |skip, text: &mut [u8; streams::PART]| explanation::part(file, skip, text);
+    streams::write_parts(out, part)
 }
