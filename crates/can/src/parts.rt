@@ -22,32 +22,27 @@ pub(crate) struct Report {
 }
 
 // A frame, in any list of aliases and any joining state.
-pub fn join(aliases: &[u64], nodes: &[u64], mut state: Joining, frame: Frame) -> Joined
+pub fn join(aliases: &[u64], nodes: &[u64], state: Joining, frame: Frame) -> Joined
     ensures result_value { seen_in result ≡ seen_of (join_of (listed aliases.now nodes.now) (state_of state) frame) }
     ensures refusal_keeps { RefusalKeeps state result }
     ensures no_payload_is_zero { NoPayloadIsZero result }
 {
     let list = AliasList { aliases, nodes };
-    match take(&list, &mut state, frame) {
-        Ok(Some(report)) => Joined {
-            refusal: 0,
-            mti: report.mti,
-            message: report.message,
-            state,
-        },
-        Ok(None) => Joined {
-            refusal: 0,
-            mti: 0,
-            message: Gathered::empty(0, 0),
-            state,
-        },
-        Err(refusal) => Joined {
-            refusal: refusal.into(),
-            mti: 0,
-            message: Gathered::empty(0, 0),
-            state,
-        },
+    let mut joined = Joined {
+        refusal: 0,
+        mti: 0,
+        message: Gathered::empty(0, 0),
+        state,
+    };
+    match take(&list, &mut joined.state, frame) {
+        Ok(Some(report)) => {
+            joined.mti = report.mti;
+            joined.message = report.message;
+        }
+        Ok(None) => {}
+        Err(refusal) => joined.refusal = refusal.into(),
     }
+    joined
 }
 
 // What a frame does to the joining state, and the report that it completes.
