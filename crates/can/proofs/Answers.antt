@@ -164,7 +164,7 @@ handed_as : (mti : ℕ) (g : Gathered) (b : Begun) → begun_of g ≡ b → hand
 handed_as mti g b e = ap (λ (x : Begun). report mti x.sender x.event x.so_far) e
 
 module _ (j : Joining) (n : ℕ) (f : Frame) (named : n ≡ 0 → ⊥) (eight : length f.bytes ≡ 8) where
-  eight_used : f.length ≡ 8 → bytes_in f ≡ f.bytes
+  pub eight_used : f.length ≡ 8 → bytes_in f ≡ f.bytes
   eight_used e = ap (λ (k : ℕ). take k f.bytes) e ∙ take_all 8 f.bytes (omega (arith, eight))
 
   pub middle_size : f.length ≡ 8 → length (bytes_in f) ≡ 8

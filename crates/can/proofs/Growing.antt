@@ -6,7 +6,7 @@ use borrow.Rule.Slice.PartMut.{put_mid, mid_of, same_len_mid}
 use Rattle.basics.specs.Lists.{each}
 
 -- The first n places of a payload that has as many are its first n bytes.
-first_bytes : (xs : List ℕ) (n : ℕ) → n ≤ length xs → each n (λ i. get_or xs i 0) ≡ take n xs
+pub first_bytes : (xs : List ℕ) (n : ℕ) → n ≤ length xs → each n (λ i. get_or xs i 0) ≡ take n xs
 unfolding each
 first_bytes xs zero h = refl
 first_bytes xs (suc n) h = ap (λ front. front ++ (get_or xs n 0 ∷ [])) (first_bytes xs n (omega arith)) ∙ sym (take-suc xs n 0 h)

@@ -38,7 +38,7 @@ module _ {A : Type 0} where
       ∙ ap (λ (t : Bool). t || any test (part (at n) ∷ [])) (any_part test part n at)
       ∙ sym (any_append test (each n (λ i. part (at i))) (part (at n) ∷ []))
 
-bad_lines_parts : (below n : ℕ) (t : Lists)
+pub bad_lines_parts : (below n : ℕ) (t : Lists)
     → any (bad_line below) (lines_in n t)
     ≡ (any (leb below) (first_numbers n t.ports) || (any bad_node (first_numbers n t.nodes) || any not_block (first_blocks n t.starts t.sizes)))
 bad_lines_parts below n t =

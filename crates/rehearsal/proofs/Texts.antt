@@ -32,7 +32,7 @@ unfolding digits_of
 no_marks [] h = refl
 no_marks (x ∷ s) h = absurd (true≢false (sym h ∙ ne_eqb (suc (length s)) 0 (λ e. omega (arith, e))))
 
-some_marks : (s : List ℕ) → (length s == 0) ≡ false → or_dash (digits_of s) ≡ digits_of s
+pub some_marks : (s : List ℕ) → (length s == 0) ≡ false → or_dash (digits_of s) ≡ digits_of s
 unfolding digits_of
 some_marks [] h = absurd (true≢false h)
 some_marks (x ∷ s) h = decimal_kept 19 x (digits_of s)
